@@ -1,0 +1,2 @@
+// The words of C0 that every stage of the translator speaks: tokens and syntax trees.
+pub mod token;

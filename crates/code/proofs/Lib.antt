@@ -1,0 +1,4 @@
+pub mod Floors
+pub mod Stacks
+pub mod Moving
+pub mod Advances

@@ -1,1 +1,3 @@
 pub mod Tokens
+pub mod Trees
+pub mod TreeOf

@@ -1,0 +1,11 @@
+pub mod Begins
+pub mod Values
+pub mod Runs
+pub mod Heads
+pub mod Spellings
+pub mod Sound
+pub mod Complete
+pub mod Reading
+pub mod Limits
+pub mod Turns
+pub mod Only

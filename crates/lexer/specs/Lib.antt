@@ -1,0 +1,5 @@
+pub mod Bytes
+pub mod Scan
+pub mod Tokens
+pub mod Lex
+pub mod Reading

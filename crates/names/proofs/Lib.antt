@@ -1,0 +1,4 @@
+pub mod Spells
+pub mod Looks
+pub mod Declares
+pub mod Sequences

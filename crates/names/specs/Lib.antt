@@ -1,0 +1,4 @@
+pub mod Cells
+pub mod Declares
+pub mod Uses
+pub mod Names

@@ -1,0 +1,4 @@
+pub mod Fronts
+pub mod Feeds
+pub mod Spelled
+pub mod Whole

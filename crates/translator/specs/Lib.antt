@@ -1,0 +1,10 @@
+pub mod Cells
+pub mod Linear
+pub mod Published
+pub mod Symbols
+pub mod Emitted
+pub mod Written
+pub mod Examples
+pub mod Bounds
+pub mod Outcomes
+pub mod Refusals

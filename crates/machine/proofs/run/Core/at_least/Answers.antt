@@ -1,0 +1,8 @@
+use Rattle.machine.proofs.Comparing.{compared, at-least-is}
+use Rattle.machine.proofs.Doing.{done-as}
+use Rattle.machine.proofs.run.Core.at_least.Needs as need
+
+pub returns : need.returns
+returns g c =
+    let t = c .in-Continue-x .ensures tt .words in
+    done-as _ _ (compared _ _ _ _ _ 0 1 1 _ t (at-least-is _ _ (t .left) (t .right))) (c .replace-by-answer .ensures)

@@ -6,9 +6,10 @@ use Rattle.syntax.specs.Trees.{Statements, Program}
 use Rattle.names.specs.Cells.{cell_from}
 use Rattle.translator.specs.Cells.{cells_of_statements}
 use Rattle.translator.specs.Linear.{Code, linear_code}
-use Rattle.translator.specs.Published.{symbols, mksymtab, code_of}
+use Rattle.translator.specs.Published.{symbols, mksymtab}
 use Rattle.translator.proofs.Labels.{linearised}
 use Rattle.meaning.specs.Meaning.{numbered, cell_by}
+use Rattle.meaning.specs.Promise.{code_of}
 
 symbols_are : (k : ℕ) (ids : List (Name × ℕ)) (x : Name) → symbols k ids x ≡ numbered (cell_from k ids x)
 symbols_are k [] x = refl

@@ -3,29 +3,25 @@ use Rattle.std.proofs.Common.{◌≡◌, ℕ, ◌≤◌, List, [], ◌∷◌, �
 use Rattle.std.specs.Int.{int_wrap}
 use Rattle.syntax.specs.Tokens.{kinds}
 use Rattle.lexer.specs.Lex.{accepted, answer}
-use Rattle.grammar.specs.Grammar.{Expression, ProgramTree, Within, expression_parens, yield}
-use Rattle.grammar.proofs.Verdicts.{judges}
-use Rattle.frontend.specs.Sources.{Spells}
-use Rattle.meaning.specs.Examples.{tokens_of, program_of, counting, counting_tree, squares, squares_tree, printing, printing_tree, opened, Examples}
+use Rattle.grammar.specs.Grammar.{Expression, expression_parens, yield}
+use Rattle.meaning.specs.Sources.{tokens_of, program_of, Spells}
+use Rattle.meaning.specs.Examples.{counting, counting_tree, squares, squares_tree, printing, printing_tree, Examples}
 
--- a source with the tokens of this tree
-spells : (text : List ℕ) (tree : ProgramTree) → answer text ≡ accepted (tokens_of text) → Within 32 32 tree → yield tree ≡ kinds (tokens_of text) → Spells text (program_of tree text)
-spells text tree read within spelled = record { tokens = tokens_of text; read = read; parsed = record { parse = tree; within = within; spelled = spelled; placed = refl } }
+counting_spelled : Spells counting counting_tree (program_of counting_tree counting)
+counting_spelled = record { read = refl; within = (omega arith, omega arith, (tt, (tt, (tt, (tt, tt))))); spelled = refl; placed = refl }
 
-counting_spelled : Spells counting (program_of counting_tree counting)
-counting_spelled = spells counting counting_tree refl (omega arith, omega arith, (tt, (tt, (tt, (tt, tt))))) refl
-
-squares_spelled : Spells squares (program_of squares_tree squares)
-squares_spelled = spells squares squares_tree refl (omega arith, omega arith, (tt, (tt, (tt, ((tt, (tt, tt)), (tt, tt)))))) refl
+squares_spelled : Spells squares squares_tree (program_of squares_tree squares)
+squares_spelled = record { read = refl; within = (omega arith, omega arith, (tt, (tt, (tt, ((tt, (tt, tt)), (tt, tt)))))); spelled = refl; placed = refl }
 
 printing_spelled : (text : List ℕ) (e : Expression) → expression_parens e ≤ 32 → answer (printing text) ≡ accepted (tokens_of (printing text)) →
-    yield (printing_tree e) ≡ kinds (tokens_of (printing text)) → Spells (printing text) (program_of (printing_tree e) (printing text))
-printing_spelled text e h read spelled = spells (printing text) (printing_tree e) read (omega (arith, h), omega arith, (tt, (tt, tt))) spelled
+    yield (printing_tree e) ≡ kinds (tokens_of (printing text)) → Spells (printing text) (printing_tree e) (program_of (printing_tree e) (printing text))
+printing_spelled text e h read spelled =
+    record { read = read; within = (omega (arith, h), omega arith, (tt, (tt, tt))); spelled = spelled; placed = refl }
 
 pub examples : Examples
 unfolding int_wrap
 examples = record {
-  empty_program = record { spelled = spells _ _ refl (omega arith, omega arith, tt) refl; means = refl };
+  empty_program = record { spelled = record { read = refl; within = (omega arith, omega arith, tt); spelled = refl; placed = refl }; means = refl };
   empty_code = refl;
   loop_running = record { spelled = counting_spelled; means = refl };
   loop_at_lid = record { spelled = counting_spelled; means = refl };
@@ -42,13 +38,12 @@ examples = record {
   past_wrapping = record { spelled = printing_spelled (codes "1073741823*2+2") _ (omega arith) refl refl; means = refl };
   past_clamped = record { spelled = printing_spelled (codes "1073741823*2+2") _ (omega arith) refl refl; means = refl };
   by_zero = record { spelled = printing_spelled (codes "1/0") _ (omega arith) refl refl; means = refl };
-  unset_name = record { spelled = spells _ _ refl (omega arith, omega arith, (tt, tt)) refl; means = refl };
+  unset_name = record { spelled = record { read = refl; within = (omega arith, omega arith, (tt, tt)); spelled = refl; placed = refl }; means = refl };
   no_room = record { spelled = printing_spelled (codes "1") _ (omega arith) refl refl; means = refl };
   loop_narrowed = refl;
   loop_places = refl;
   word_of_minus_one = refl;
   word_of_a_jump = refl;
   number_refused = refl;
-  parenthesis_refused =
-      let ts = tokens_of (printing (opened 33 ++ codes "1")) in record { tokens = ts; read = refl; broken = ((judges 31 32 ts).2 5 70).0 refl };
+  parenthesis_refused = refl;
 }

@@ -8,8 +8,7 @@ use Rattle.code.specs.Machine.{Step, moved, faulted, execute, fetch, Run, start,
 use Rattle.translator.specs.Linear.{Code, instructions, places, linear_code}
 use Rattle.meaning.specs.Meaning.{Outcome, goes_on, stops, fails, initial, reported, cell_by, meaning_of_program, meaning}
 use Rattle.meaning.specs.Depth.{depth_of_statements}
-use Rattle.translator.specs.Published.{code_of}
-use Rattle.meaning.specs.Promise.{finishing}
+use Rattle.meaning.specs.Promise.{code_of, finishing}
 use Rattle.meaning.proofs.Finals.{Final, ended, running, failed, at_instruction, go_on, run, named, verdict}
 use Rattle.meaning.proofs.Sources.{source_runs}
 use Rattle.meaning.proofs.Cells.{tree, code_is}

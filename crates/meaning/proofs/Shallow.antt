@@ -1,13 +1,15 @@
--- Placing a parse tree's tokens keeps the depth of its parentheses.
+-- Placing a parse tree's tokens keeps the depth of its parentheses, and a source spells one program.
 use Rattle.std.proofs.Common.{◌≡◌, ℕ, suc, ◌≤◌, max, List, sym, refl, ap, ◌∙◌, subst, arith}
 use Rattle.syntax.specs.declared.token.Additive.TheVariants.{Plus, Minus}
 use Rattle.syntax.specs.Tokens.{Name, Token}
 use Rattle.syntax.specs.Trees.{Expression, Term, more, times, one, Program}
-use Rattle.grammar.specs.Grammar.{Sign, bare, signed, expression, term, Products, single, by, Sums, alone, and, variable, literal, paren, test, assign, scan, print, when, either, loop, block, none, then, Declaration, ProgramTree, program, Within, expression_parens, term_parens, factor_parens, products_parens, sums_parens, condition_parens, statement_parens, statements_parens}
+use Rattle.grammar.specs.Grammar.{Sign, bare, signed, expression, term, Products, single, by, Sums, alone, and, variable, literal, paren, test, assign, scan, print, when, either, loop, block, none, then, Declaration, ProgramTree, program, Within, Nearest, expression_parens, term_parens, factor_parens, products_parens, sums_parens, condition_parens, statement_parens, statements_parens}
 use Rattle.grammar.specs.Grammar as parse
 use Rattle.grammar.specs.Placed.{past, behind_sign, expression_at, sums_at, term_at, products_at, factor_at, condition_at, statement_at, statements_at, declaration_at, program_at}
 use Rattle.grammar.specs.Placed as placed
-use Rattle.meaning.specs.Depth.{depth_of_expression, depth_of_term, depth_of_factor, depth_of_condition, depth_of_statement, depth_of_statements, Shallow}
+use Rattle.meaning.specs.Depth.{depth_of_expression, depth_of_term, depth_of_factor, depth_of_condition, depth_of_statement, depth_of_statements}
+use Rattle.meaning.specs.Sources.{program_of, Spells, OneProgram, Shallow}
+use Rattle.grammar.proofs.Runs.{unique}
 
 signed_depth : (g : Sign) (p : ℕ) (t : Term Name) → depth_of_expression (placed.signed g p t) ≡ depth_of_term t
 signed_depth bare p t = refl
@@ -82,5 +84,14 @@ tree_shallow (program d ss) ts h =
     omega (arith, h.0)
 
 pub shallow : Shallow
-shallow source p h =
-    subst (λ (q : Program Name). depth_of_statements q.statements ≤ 32) (sym h.parsed.placed) (tree_shallow h.parsed.parse h.tokens h.parsed.within)
+shallow source t p h =
+    subst (λ (q : Program Name). depth_of_statements q.statements ≤ 32) (sym h.placed) (tree_shallow t _ h.within)
+
+nearest : (t : ProgramTree) → Within 32 32 t → Nearest t
+nearest (program d ss) h = h.2
+
+pub one_program : OneProgram
+one_program source t u p q h k =
+    h.placed
+    ∙ ap (λ (w : ProgramTree). program_of w source) (unique t u (nearest t h.within) (nearest u k.within) (h.spelled ∙ sym k.spelled))
+    ∙ sym k.placed

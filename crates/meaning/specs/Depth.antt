@@ -1,10 +1,7 @@
 -- How deep parentheses stand in each other.
 --   depthOf…   of each piece; a piece without parentheses has depth 0
---   Shallow    the program of a source has parentheses at most 32 deep
-use Rattle.std.specs.Prelude.{ℕ, suc, ◌≤◌, max, List}
-use Rattle.syntax.specs.Tokens.{Name}
-use Rattle.syntax.specs.Trees.{Expression, first, minus, more, Term, one, times, Factor, name, number, paren, Condition, test, Statement, assign, scan, print, when, either, while, block, Statements, none, then, Program}
-use Rattle.frontend.specs.Sources.{Spells}
+use Rattle.std.specs.Prelude.{ℕ, suc, max}
+use Rattle.syntax.specs.Trees.{Expression, first, minus, more, Term, one, times, Factor, name, number, paren, Condition, test, Statement, assign, scan, print, when, either, while, block, Statements, none, then}
 
 module _ {N : Type 0} where
   abbrev mutual
@@ -38,6 +35,3 @@ module _ {N : Type 0} where
     pub depth_of_statements : Statements N → ℕ
     depth_of_statements none = 0
     depth_of_statements (then s ss) = max (depth_of_statement s) (depth_of_statements ss)
-
-abbrev pub Shallow : Type 0
-Shallow = (source : List ℕ) (p : Program Name) → Spells source p → depth_of_statements p.statements ≤ 32

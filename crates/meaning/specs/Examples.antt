@@ -2,7 +2,6 @@
 --   source                   a source with these names declared and these statements
 --   strict_unit, wrapping_unit, clamped_unit  the three units
 --   Short, short             a report in short: written, steps, status, and a fault's place, cause and pinch
---   tokens_of, program_of     the tokens of a source, none if it is refused; a parse tree with the places of those tokens
 --   Meant                    a source spells a tree, and means this from some tapes with so many ticks under a lid
 --   Prints                   the same of a source that assigns an expression to x and prints it
 --   Examples                 what is worked out
@@ -10,21 +9,18 @@ use Rattle.std.specs.Prelude.{◌≡◌, ℕ, zero, suc, List, [], ◌∷◌, �
 use Rattle.syntax.specs.declared.token.Relation.TheVariants as relation
 use Rattle.syntax.specs.declared.token.Additive.TheVariants.{Plus, Minus}
 use Rattle.syntax.specs.declared.token.Multiplicative.TheVariants.{Times, Divide, Modulo}
-use Rattle.syntax.specs.Tokens.{Name, Token}
-use Rattle.syntax.specs.Trees.{Program}
+use Rattle.syntax.specs.Tokens.{Name}
 use Rattle.code.specs.declared.Instruction.TheVariants as am
 use Rattle.code.specs.Words.{word_of}
 use Rattle.code.specs.World.{Tapes, Fault, Report, ArithmeticUnit}
 use Rattle.units.specs.Narrowing.{minimum, maximum, strict, wrapping, clamped}
-use Rattle.lexer.specs.Lex.{Answer, accepted, refused, answer}
+use Rattle.lexer.specs.Lex.{refused, answer}
 use Rattle.grammar.specs.Grammar.{Expression, expression, bare, signed, Term, term, Factor, variable, literal, paren, single, by, alone, and, test, Statement, assign, scan, print, loop, block, Statements, none, then, nomore, also, nothing, variables, ProgramTree, program}
-use Rattle.grammar.specs.Placed.{program_at}
-use Rattle.frontend.specs.declared.refusal.Refusal.TheVariants.{TooLarge, Depth}
-use Rattle.frontend.specs.Sources.{Spells, Refuses}
+use Rattle.grammar.specs.Automaton.{judge, start, wrong}
 use Rattle.translator.specs.Linear.{instructions, places}
 use Rattle.meaning.specs.Meaning.{meaning_of_program, initial, meaning}
-use Rattle.translator.specs.Published.{code_of}
-use Rattle.meaning.specs.Promise.{narrowed}
+use Rattle.meaning.specs.Promise.{code_of, narrowed}
+use Rattle.meaning.specs.Sources.{tokens_of, program_of, Spells}
 
 -- ---- Units and reports
 
@@ -56,19 +52,9 @@ tapes waiting = record { waiting = waiting; written = []; room = 1000; pinch = (
 abbrev pub source : List ℕ → List ℕ → List ℕ
 source declared statements = codes "#include <stdio.h> int main(){" ++ (declared ++ (statements ++ codes "return 0;}"))
 
-abbrev pub accepted_tokens : Answer → List Token
-accepted_tokens (accepted ts) = ts
-accepted_tokens (refused n p) = []
-
-abbrev pub tokens_of : List ℕ → List Token
-tokens_of source = accepted_tokens (answer source)
-
-abbrev pub program_of : ProgramTree → List ℕ → Program Name
-program_of tree source = program_at tree (tokens_of source)
-
 -- what a source with this parse tree means with n ticks under a lid
 pub record Meant (U : ArithmeticUnit) (text : List ℕ) (tree : ProgramTree) (t : Tapes) (lid n : ℕ) (r : Short) : Type 0 where
-  pub spelled : Spells text (program_of tree text)
+  pub spelled : Spells text tree (program_of tree text)
   pub means : short (meaning U (program_of tree text) t lid n) ≡ r
 
 -- a factor alone
@@ -159,7 +145,7 @@ pub record Examples : Type 0 where
       (expression bare (term (literal 7) single) (and Minus (term (literal 2) single) (and Minus (term (literal 3) single) alone)))
       (pos 2 ∷ [], 7, 1, None)
   -- the squares' code has 21 instructions
-  pub squares_spelled : Spells squares (program_of squares_tree squares)
+  pub squares_spelled : Spells squares squares_tree (program_of squares_tree squares)
   pub squares_code : instructions (code_of (program_of squares_tree squares)) ≡
       (am.Read 2 ∷ am.Literal (pos 1) ∷ am.Store 1 ∷ am.Literal (pos 0) ∷ am.Store 3 ∷ am.Load 1 ∷ am.Load 2 ∷ am.AtMost ∷ am.JumpIfZero 21
       ∷ am.Load 3 ∷ am.Load 1 ∷ am.Load 1 ∷ am.Multiply ∷ am.Add ∷ am.Store 3 ∷ am.Load 1 ∷ am.Literal (pos 1) ∷ am.Add ∷ am.Store 1 ∷ am.Jump 6
@@ -189,5 +175,5 @@ pub record Examples : Type 0 where
   pub word_of_minus_one : word_of (am.Literal (negsuc 0)) ≡ 0xFFFF_FFFF
   pub word_of_a_jump : word_of (am.JumpIfZero 13) ≡ 0x6800_000D
   -- a number too large is refused with 3, a 33rd open parenthesis with 5
-  pub number_refused : Refuses (printing (codes "1073741824")) (TooLarge 38)
-  pub parenthesis_refused : Refuses (printing (opened 33 ++ codes "1")) (Depth 70)
+  pub number_refused : answer (printing (codes "1073741824")) ≡ refused 3 38
+  pub parenthesis_refused : judge (tokens_of (printing (opened 33 ++ codes "1"))) (start 31 32) ≡ wrong 5 70

@@ -1,4 +1,5 @@
 pub mod Meaning
 pub mod Depth
 pub mod Promise
+pub mod Sources
 pub mod Examples

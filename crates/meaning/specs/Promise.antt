@@ -1,4 +1,5 @@
 -- What is promised of the runs of a program's code.
+--   code_of               the published code of a program, linearised
 --   total, advances      the sum of some allowances, and the run after advances with them
 --   finishing            what is told of a run of some code
 --   RunsMeanSources      any advances, then finishing, tell what the program means
@@ -22,9 +23,12 @@ use Rattle.code.specs.declared.Instruction.{Instruction}
 use Rattle.code.specs.World.{Tapes, Report, ArithmeticUnit, Inside, Lawful}
 use Rattle.code.specs.Machine.{Run, start, advance, status, finish}
 use Rattle.translator.specs.Linear.{Code, instructions, places}
-use Rattle.translator.specs.Published.{code_of}
+use Rattle.translator.specs.Published.{trans, linearise}
 use Rattle.meaning.specs.Meaning.{Outcome, goes_on, stops, fails, meaning_of_program, initial, meaning}
 use Rattle.meaning.specs.Depth.{depth_of_statements}
+
+abbrev pub code_of : Program Name → Code
+code_of p = linearise (trans p)
 
 -- ---- Any list of advances
 

@@ -1,7 +1,7 @@
 // What a source means, and that its code does it. Each function's contract is theorems over the definitions of specs/.
-ghost use Rattle.meaning.specs.Depth.{Shallow};
 ghost use Rattle.meaning.specs.Examples.{Examples};
 ghost use Rattle.meaning.specs.Promise.{RunsMeanSources, UnitsAgree, HistoriesMeanSources, HistoriesExist};
+ghost use Rattle.meaning.specs.Sources.{OneProgram, Shallow};
 
 // Any list of advances, then finishing, tells what the program means; another unit tells the same.
 pub fn runs_mean_sources()
@@ -15,9 +15,10 @@ pub fn histories_mean_sources()
     ensures exist { HistoriesExist }
 {}
 
-// The program of a source has parentheses shallow enough for the machine's stack.
-pub fn sources_are_shallow()
-    ensures { Shallow }
+// A source spells one program, with parentheses shallow enough for the machine's stack.
+pub fn sources_spell_programs()
+    ensures one { OneProgram }
+    ensures shallow { Shallow }
 {}
 
 // Worked examples, from the bytes of their sources.

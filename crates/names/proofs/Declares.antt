@@ -29,11 +29,11 @@ repeat_at es i c place h apart cell stands =
     let in_front : c - 1 < i = omega (arith, length-take-le i es (omega arith)) in
     record { index = i; within = h; stands = stands; earlier = c - 1; before = in_front; same = ap (λ x. x.0) (sym (get_or-take i es (c - 1) ([], 0) in_front)) ∙ cell.named; apart = apart }
 
-pub next_apart : (es : Entries) (i : ℕ) (o : Option ℕ) → i < length es → Apart es i → is_some o ≡ false → Looked (take i es) (name_at es i) o → Apart es (i + 1)
+next_apart : (es : Entries) (i : ℕ) (o : Option ℕ) → i < length es → Apart es i → is_some o ≡ false → Looked (take i es) (name_at es i) o → Apart es (i + 1)
 next_apart es i None h apart e l = apart_more es i h apart l
 next_apart es i (Some c) h apart e l = absurd (true≢false e)
 
-pub next_repeats : (es : Entries) (i : ℕ) (o : Option ℕ) (place : ℕ) → i < length es → Apart es i → is_some o ≡ true → Looked (take i es) (name_at es i) o → place ≡ place_at es i → Repeat es place
+next_repeats : (es : Entries) (i : ℕ) (o : Option ℕ) (place : ℕ) → i < length es → Apart es i → is_some o ≡ true → Looked (take i es) (name_at es i) o → place ≡ place_at es i → Repeat es place
 next_repeats es i None place h apart e l stands = absurd (false≢true e)
 next_repeats es i (Some c) place h apart e l stands = repeat_at es i c place h apart l stands
 
@@ -46,7 +46,7 @@ cell_is es i (Some c) apart h l = ap Some (at (cases_order (c - 1) i))
     at (inr (inl n)) = absurd (apart (c - 1) i n h l.named)
     at (inr (inr n)) = absurd (l.earlier i n refl)
 
-pub declared : (es : Entries) → length es ≤ 64 → Apart es (length es) → Declaration es
+declared : (es : Entries) → length es ≤ 64 → Apart es (length es) → Declaration es
 declared es few once = record { few = few; once = once; cells = λ i h. cell_is es i (cell_of es (name_at es i)) once h (looked es (name_at es i)) }
 
 -- as the code looks a name up, among those before it

@@ -44,7 +44,7 @@ module _ (es us vs ws : Entries) (whole : ws ≡ us ++ vs) (r : Result (Unit {0}
       at None h = absurd (let z : ◌≡◌ {A = ℕ} 0 1 = cc in omega arith)
       at (Some p) h = h
 
-abbrev pub FirstIf : Entries → Entries → Option ℕ → Type 0
+abbrev FirstIf : Entries → Entries → Option ℕ → Type 0
 FirstIf es us None = AllDeclared es us
 FirstIf es us (Some p) = FirstUndeclared es us p
 

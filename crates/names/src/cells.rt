@@ -7,7 +7,7 @@ ghost use Rattle.names.specs.Cells.{cell_of, Looked};
 use syntax::tree::Name;
 
 // The bytes of a name, as far as they lie in the source.
-pub fn spelling<'a>(source: &'a [u8], name: Name) -> &'a [u8]
+fn spelling<'a>(source: &'a [u8], name: Name) -> &'a [u8]
     ensures { result.now ≡ name_of source.now name }
 {
     let start = (name.place as usize).min(source.len());

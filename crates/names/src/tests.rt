@@ -73,7 +73,7 @@ fn sizes(rt: HostRuntime) -> Result<(), Fail> {
 // `x=y;`
 fn assignment(heap: Global, declared: &[Name]) -> Result<(u32, u32), AllocError> {
     let value = Expression::First(Term::One(Factor::Variable(name(2, 1))));
-    let statement = Statement::Assign(name(0, 1), Box::new(heap, value)?);
+    let statement = Statement::Assign(name(0, 1), value);
     let rest = Box::new(heap, Statements::Nothing)?;
     let declared = Vec::from_slice(heap, declared)?;
     let program = Program {

@@ -37,6 +37,10 @@ pub less_behind : {X Y : Type 0} (z a b : ℕ) (r : Result X Y) → a < b → If
 less_behind z a b (Ok x) h k = omega arith
 less_behind z a b (Err y) h k = tt
 
+pub fewer_of_less : {X Y : Type 0} (z a b : ℕ) (r : Result X Y) → a ≤ b → IfOk r (λ _. z < a) → IfOk r (λ _. z ≤ b)
+fewer_of_less z a b (Ok x) h k = omega arith
+fewer_of_less z a b (Err y) h k = tt
+
 pub peeked_fewer : {X : Type 0} (a b : ℕ) (r : Option X) → MatchOption r (a ≤ b) (λ _. a < b) → a ≤ b
 peeked_fewer a b None h = h
 peeked_fewer a b (Some x) h = omega arith
@@ -170,6 +174,10 @@ no_else us vs h e es x s =
     alike us (same (mark Else)) (tail 32 (e ∷ es) x) (tail 32 es x) s s h.1
     (λ k n. pass (mark Else, elses 32 (e ∷ es) x s) rest k n ∙ sym (pass (mark Else, elses 32 es x s) rest k n))
     ∙ ap (λ l. judge l (tail 32 es x ∷ s)) (sym h.0)
+
+-- the first token of a statement is known by its mark
+pub keyword_is : {m k : Mark} (n d : ℕ) (us : List Token) (es : List ℕ) (x : Frame) (s : List Symbol) → m ≡ k → judge (token_at (mark m) n ∷ us) (statement 32 d es x ∷ s) ≡ judge (token_at (mark k) n ∷ us) (statement 32 d es x ∷ s)
+keyword_is n d us es x s e = ap (λ m. judge (token_at (mark m) n ∷ us) (statement 32 d es x ∷ s)) e
 
 pub if_read : (us : List Token) (n : ℕ) {d e : ℕ} → d ≡ suc e → (es : List ℕ) (x : Frame) (s : List Symbol) → judge (token_at (mark If) n ∷ us) (statement 32 d es x ∷ s) ≡ judge us (guard 32 (statement 32 e (e ∷ es) x ∷ s))
 if_read us n h es x s = ap (λ d. judged (go (feed us) n (ifs 32 d es x s))) h

@@ -1,6 +1,4 @@
 pub mod Fronts
 pub mod Feeds
 pub mod Spelled
-pub mod Joined
-pub mod Declared
 pub mod Whole

@@ -2,4 +2,4 @@ pub mod Reads
 pub mod Readers
 pub mod Statements
 pub mod Programs
-pub mod Parsing
+pub mod Promise

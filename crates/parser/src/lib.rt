@@ -1,5 +1,5 @@
-// From the tokens of a source to its syntax tree: are they those of a program within both depths?
-ghost use Rattle.parser.specs.Parsing.{Parses};
+// Are the tokens of a source those of a program within both depths?
+ghost use Rattle.parser.specs.Promise.{Answers};
 
 mod expression;
 mod program;
@@ -11,15 +11,14 @@ use reader::Reader;
 use refusal::Refusal;
 use std::alloc::Global;
 use syntax::token::Token;
-use syntax::tree::Program;
 
-pub fn parse(heap: Global, tokens: &[Token]) -> Result<Program, Refusal>
-    ensures { Parses tokens.now result }
+pub fn check(heap: Global, tokens: &[Token]) -> Result<(), Refusal>
+    ensures { Answers tokens.now result }
 {
     let mut reader = Reader { rest: tokens, heap };
-    let program = reader.program()?;
+    reader.program()?;
     match reader.next() {
-        None => Ok(program),
+        None => Ok(()),
         Some(token) => Err(Refusal::Grammar(token.place)),
     }
 }

@@ -1,45 +1,41 @@
 // Readers of declarations and of a whole program.
 ghost use Rattle.parser.specs.Readers.{Fewer};
-ghost use Rattle.parser.specs.Programs.{ReadsNames, ReadsDeclaration, ReadsProgram};
+ghost use Rattle.parser.specs.Programs.{TakesNames, TakesDeclaration, TakesProgram};
 
 use crate::reader::Reader;
 use crate::refusal::Refusal;
 use syntax::token::Mark;
-use syntax::tree::{Name, Program};
 
 // How many levels there may be below an outermost statement.
 const LEVELS: u32 = 31;
 
 impl Reader<'_> {
     // The names of a declaration behind its first.
-    fn names(&mut self, names: &mut Vec<Name>) -> Result<(), Refusal>
-        ensures reads { ReadsNames self.old names.old.items result self.new names.new.items }
+    fn names(&mut self) -> Result<(), Refusal>
+        ensures takes { TakesNames self.old result self.new }
         ensures fewer { Fewer self.old result self.new }
     {
         if let Some(_) = self.accept(Mark::Comma) {
-            let name = self.name()?;
-            names.push(name)?;
-            return self.names(names);
+            self.name()?;
+            return self.names();
         }
         self.expect(Mark::Semicolon)?;
         Ok(())
     }
 
-    fn declaration(&mut self) -> Result<Vec<Name>, Refusal>
-        ensures reads { ReadsDeclaration self.old result self.new }
+    fn declaration(&mut self) -> Result<(), Refusal>
+        ensures takes { TakesDeclaration self.old result self.new }
+        ensures fewer { Fewer self.old result self.new }
     {
-        let mut names = Vec::new(self.heap);
         let Some(_) = self.accept(Mark::Int) else {
-            return Ok(names);
+            return Ok(());
         };
-        let first = self.name()?;
-        names.push(first)?;
-        self.names(&mut names)?;
-        Ok(names)
+        self.name()?;
+        self.names()
     }
 
-    pub fn program(&mut self) -> Result<Program, Refusal>
-        ensures reads { ReadsProgram self.old result self.new }
+    pub fn program(&mut self) -> Result<(), Refusal>
+        ensures takes { TakesProgram self.old result self.new }
     {
         self.expect_all(&[
             Mark::Head,
@@ -49,13 +45,9 @@ impl Reader<'_> {
             Mark::RightParen,
             Mark::LeftBrace,
         ])?;
-        let declared = self.declaration()?;
-        let statements = self.statements(Mark::Return, LEVELS)?;
+        self.declaration()?;
+        self.statements(Mark::Return, LEVELS)?;
         self.zero()?;
-        self.expect_all(&[Mark::Semicolon, Mark::RightBrace])?;
-        Ok(Program {
-            declared,
-            statements,
-        })
+        self.expect_all(&[Mark::Semicolon, Mark::RightBrace])
     }
 }

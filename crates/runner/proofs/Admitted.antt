@@ -17,8 +17,7 @@ use Rattle.image.specs.Admission.{Decodes, FirstNone, FirstOutside, Outside, Ref
 use Rattle.image.specs.declared.refusal.Refusal.{Refusal}
 use Rattle.image.specs.declared.refusal.Refusal.TheVariants.{TooLong, NotInstruction, OutOfBounds, NoMemory}
 use Rattle.meaning.specs.Meaning.{Outcome, reported, meaning}
-use Rattle.translator.specs.Published.{code_of}
-use Rattle.meaning.specs.Promise.{total, advances, Reached, Promised}
+use Rattle.meaning.specs.Promise.{code_of, total, advances, Reached, Promised}
 use Rattle.meaning.proofs.Booleans.{is_true}
 use Rattle.meaning.proofs.Histories.{runs_mean_sources, units_agree, histories_mean_sources}
 use Rattle.meaning.proofs.Shallow.{shallow}
@@ -137,14 +136,14 @@ calls_mean_sources each source p U t lid cs r k =
     let report : finish lid (instructions (code_of p)) (places (code_of p)) k.run ≡ r =
     sym (k.finished ∙ ap (λ (is : List Instruction). finish lid is (places (code_of p)) k.run) same) in
     subst (λ q. Promised U p t lid cs q) report
-    (histories_mean_sources lid (code_of p) k.run U p refl (shallow source p k.spelled) t cs reached)
+    (histories_mean_sources lid (code_of p) k.run U p refl (shallow source k.tree p k.spelled) t cs reached)
 
 drive_means : OneWordEach → (source : List ℕ) (p : Program Name) (U : ArithmeticUnit) (t : Tapes) (lid : ℕ) (ns : List ℕ) (r : Report) →
     Drive source p U t lid ns r → r ≡ meaning U p t lid (min lid (total ns))
 drive_means each source p U t lid ns r k =
     k.finished
     ∙ ap (λ (is : List Instruction). finish lid is (places (code_of p)) (advances U is lid ns (start t))) (decoded each (code_of p) k.fits k.image k.admitted)
-    ∙ runs_mean_sources U p (shallow source p k.spelled) t lid ns
+    ∙ runs_mean_sources U p (shallow source k.tree p k.spelled) t lid ns
 
 pub drives_mean_sources : OneWordEach → DrivesMeanSources
 drives_mean_sources each = record {

@@ -8,8 +8,7 @@ use Rattle.code.specs.Words.{OneWordEach}
 use Rattle.translator.specs.Linear.{places}
 use Rattle.machine.specs.declared.status.Status.{Status}
 use Rattle.machine.specs.Numbers.{status_number}
-use Rattle.translator.specs.Published.{code_of}
-use Rattle.meaning.specs.Promise.{advances}
+use Rattle.meaning.specs.Promise.{code_of, advances}
 use Rattle.runner.specs.Calls.{Drive}
 use Rattle.runner.proofs.Admitted.{drives_mean_sources}
 use Rattle.runner.specs.Driving.{Told, LastOf, MeansSources}
@@ -60,10 +59,10 @@ advances_same U code code' lid lid' ns ns' m m' ec el en em =
 -- what the report of a driven run means
 pub driven_means : OneWordEach → (U : ArithmeticUnit) (t : Tapes) (lid : ℕ) (ns : List ℕ) (image : List Instruction) (report : List ℕ → Report) →
     ((places : List ℕ) → report places ≡ finish lid image places (advances U image lid ns (start t))) → MeansSources U t lid ns image report
-driven_means each U t lid ns image report is source p spelled fits decodes =
+driven_means each U t lid ns image report is source tree p spelled fits decodes =
     let r : Report = report (places (code_of p)) in
     let drive : Drive source p U t lid ns r =
-    record { spelled = spelled; fits = fits; image = image; admitted = decodes; finished = is (places (code_of p)) } in
+    record { tree = tree; spelled = spelled; fits = fits; image = image; admitted = decodes; finished = is (places (code_of p)) } in
     record {
       means = (drives_mean_sources each).means source p U t lid ns r drive;
       other_unit = (drives_mean_sources each).other_unit source p U t lid ns r drive;

@@ -8,8 +8,8 @@
 use Rattle.std.specs.Prelude.{◌≡◌, ℕ, ◌≤◌, min, List, length}
 use Rattle.syntax.specs.Tokens.{Name}
 use Rattle.syntax.specs.Trees.{Program}
+use Rattle.grammar.specs.Grammar.{ProgramTree}
 use Rattle.names.specs.Names.{Named}
-use Rattle.frontend.specs.Sources.{Spells}
 use Rattle.code.specs.declared.Instruction.{Instruction}
 use Rattle.code.specs.World.{Tapes, Report, ArithmeticUnit, Lawful}
 use Rattle.code.specs.Machine.{Run, start, finish}
@@ -19,11 +19,12 @@ use Rattle.image.specs.Admission.{Decodes, Refuses}
 use Rattle.image.specs.declared.refusal.Refusal.{Refusal}
 use Rattle.image.specs.declared.refusal.Refusal.TheVariants.{NoMemory}
 use Rattle.meaning.specs.Meaning.{meaning}
-use Rattle.translator.specs.Published.{code_of}
-use Rattle.meaning.specs.Promise.{total, advances, NarrowsInside, Call, Reached, Promised}
+use Rattle.meaning.specs.Promise.{code_of, total, advances, NarrowsInside, Call, Reached, Promised}
+use Rattle.meaning.specs.Sources.{Spells}
 
 pub record Calls (source : List ℕ) (p : Program Name) (U : ArithmeticUnit) (t : Tapes) (lid : ℕ) (cs : List Call) (r : Report) : Type 0 where
-  pub spelled : Spells source p
+  pub tree : ProgramTree
+  pub spelled : Spells source tree p
   pub fits : Fits (code_of p)
   pub image : List Instruction
   pub admitted : Decodes (words_of (code_of p)) image
@@ -37,7 +38,8 @@ CallsMeanSources =
     Calls source p U t lid cs r → Promised U p t lid cs r
 
 pub record Drive (source : List ℕ) (p : Program Name) (U : ArithmeticUnit) (t : Tapes) (lid : ℕ) (ns : List ℕ) (r : Report) : Type 0 where
-  pub spelled : Spells source p
+  pub tree : ProgramTree
+  pub spelled : Spells source tree p
   pub fits : Fits (code_of p)
   pub image : List Instruction
   pub admitted : Decodes (words_of (code_of p)) image

@@ -7,7 +7,7 @@
 use Rattle.std.specs.Prelude.{◌≡◌, ℕ, min, List, [], ◌∷◌, Some, None, Option}
 use Rattle.syntax.specs.Tokens.{Name}
 use Rattle.syntax.specs.Trees.{Program}
-use Rattle.frontend.specs.Sources.{Spells}
+use Rattle.grammar.specs.Grammar.{ProgramTree}
 use Rattle.code.specs.declared.Instruction.{Instruction}
 use Rattle.code.specs.World.{Tapes, Report, ArithmeticUnit, Lawful}
 use Rattle.translator.specs.Linear.{places}
@@ -16,8 +16,8 @@ use Rattle.image.specs.Admission.{Decodes}
 use Rattle.machine.specs.declared.status.Status.{Status}
 use Rattle.machine.specs.Numbers.{status_number}
 use Rattle.meaning.specs.Meaning.{meaning}
-use Rattle.translator.specs.Published.{code_of}
-use Rattle.meaning.specs.Promise.{total, NarrowsInside}
+use Rattle.meaning.specs.Promise.{code_of, total, NarrowsInside}
+use Rattle.meaning.specs.Sources.{Spells}
 
 abbrev pub Told : Option Status → ℕ → Type 0
 Told None n = ⊥
@@ -34,5 +34,5 @@ pub record Meant (U : ArithmeticUnit) (p : Program Name) (t : Tapes) (lid : ℕ)
 -- the report depends on the place list, which is that of the source's code
 abbrev pub MeansSources : ArithmeticUnit → Tapes → ℕ → List ℕ → List Instruction → (List ℕ → Report) → Type 0
 MeansSources U t lid ns image report =
-    (source : List ℕ) (p : Program Name) → Spells source p → Fits (code_of p) → Decodes (words_of (code_of p)) image →
+    (source : List ℕ) (tree : ProgramTree) (p : Program Name) → Spells source tree p → Fits (code_of p) → Decodes (words_of (code_of p)) image →
     Meant U p t lid ns (report (places (code_of p)))

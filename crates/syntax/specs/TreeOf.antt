@@ -4,7 +4,7 @@
 --   condition_of, statement_of, statements_of
 --   declared_of                          the names of a declaration
 --   tree_of                               a whole program
-use Rattle.std.specs.Prelude.{ℕ, List, [], ◌∷◌, take, drop, vec_items, box_value}
+use Rattle.std.specs.Prelude.{ℕ, List, [], ◌∷◌, take, drop, vec_items}
 use Rattle.syntax.specs.Tokens.{Name}
 use Rattle.syntax.specs.Trees as tree
 use Rattle.syntax.specs.declared.tree.Name as coded-name
@@ -37,11 +37,11 @@ abbrev mutual
   expression_of source (Sum' box left operator place right) = tree.more (expression_of source left) operator place (term_of source right)
 
 abbrev pub condition_of : List ℕ → Condition → tree.Condition Name
-condition_of source c = tree.test (expression_of source (box_value c.left)) c.relation c.place (expression_of source (box_value c.right))
+condition_of source c = tree.test (expression_of source c.left) c.relation c.place (expression_of source c.right)
 
 abbrev mutual
   pub statement_of : List ℕ → Statement → tree.Statement Name
-  statement_of source (Assign n e) = tree.assign (name_of source n) n.place (expression_of source (box_value e))
+  statement_of source (Assign n e) = tree.assign (name_of source n) n.place (expression_of source e)
   statement_of source (Scan n) = tree.scan (name_of source n) n.place
   statement_of source (Print n) = tree.print (name_of source n) n.place
   statement_of source (If' place c box body) = tree.when place (condition_of source c) (statement_of source body)

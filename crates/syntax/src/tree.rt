@@ -47,17 +47,17 @@ pub enum Expression {
 
 #[derive(Drop)]
 pub struct Condition {
-    pub left: Box<Expression>,
+    pub left: Expression,
     pub relation: Relation,
     pub place: u32,
-    pub right: Box<Expression>,
+    pub right: Expression,
 }
 
 // The place of an `if` or a `while` is that of its word.
 #[cycle(statement)]
 #[derive(Drop)]
 pub enum Statement {
-    Assign(Name, Box<Expression>),
+    Assign(Name, Expression),
     Scan(Name),
     Print(Name),
     If {

@@ -6,5 +6,3 @@ pub mod Appended
 pub mod Patched
 pub mod CellsUsed
 pub mod Inside
-pub mod Outcome
-pub mod Once

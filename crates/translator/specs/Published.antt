@@ -8,7 +8,6 @@
 --   table, find     the pairs of tree address and number, with the instructions numbered from 1; the number of an address
 --   adapt           the instructions alone, their jumps adapted to the numbers
 --   linearise       numbering and adapting
---   code_of          the code of a program: its translation, linearised
 --   labels          the tree addresses that stand in some lines
 --   Distinct        no tree address stands twice
 --   LabelledOnce    no tree address stands twice in a program's translation
@@ -133,9 +132,6 @@ adapt t (jump_if_zero l p ∷ xs) = (JumpIfZero (find l t), p) ∷ adapt t xs
 
 abbrev pub linearise : List Line → Code
 linearise xs = adapt (table 1 xs) xs
-
-abbrev pub code_of : Program Name → Code
-code_of p = linearise (trans p)
 
 abbrev pub labels : List Line → List Label
 labels [] = []

@@ -9,7 +9,7 @@ use Rattle.std.specs.Prelude.{◌≡◌, ℕ, ◌<◌, ◌≤◌, ◌⊎◌, Lis
 use Rattle.std.specs.List.{AllByRecursion as All}
 use Rattle.code.specs.Words.{word_of, InRange}
 use Rattle.translator.specs.declared.refusal.Refusal.{Refusal}
-use Rattle.translator.specs.declared.refusal.Refusal.TheVariants.{Source, TooMuchCode, SmallBuffer, NoMemory}
+use Rattle.translator.specs.declared.refusal.Refusal.TheVariants.{Naming, TooMuchCode, SmallBuffer, NoMemory}
 use Rattle.translator.specs.Linear as linear
 use Rattle.translator.specs.Linear.{Code}
 
@@ -34,7 +34,7 @@ abbrev pub Unstored : Code → List ℕ → List ℕ → Refusal → Type 0
 Unstored c code places (TooMuchCode p) = (4096 < length c) × (p ≡ slice_index (linear.places c) 4096)
 Unstored c code places SmallBuffer = (length c ≤ 4096) × ((length code < length c) ⊎ (length places < length c))
 Unstored c code places NoMemory = Unit {0}
-Unstored c code places (Source e) = ⊥
+Unstored c code places (Naming e) = ⊥
 
 abbrev pub Outcome : Code → List ℕ → List ℕ → Result ℕ Refusal → List ℕ → List ℕ → Type 0
 Outcome c code places (Ok n) code' places' = Stored c code places n code' places'

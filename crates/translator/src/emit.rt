@@ -2,7 +2,7 @@
 ghost use Rattle.std.specs.Prelude.{◌≡◌, ◌≤◌, length, IfOk, vec_len, OnOk};
 ghost use Rattle.syntax.specs.TreeOf.{tree_of};
 ghost use Rattle.translator.specs.Linear.{places};
-ghost use Rattle.translator.specs.Published.{code_of};
+ghost use Rattle.translator.specs.Published.{trans, linearise};
 ghost use Rattle.translator.specs.Written.{words_of, Fits};
 
 use crate::expressions::Placed;
@@ -18,7 +18,7 @@ pub fn emit<'a>(
     program: &'a Program,
 ) -> Result<Vec<Placed>, AllocError>
     requires { vec_len program.now.declared ≤ 64 }
-    ensures { IfOk result (λ v. v.items ≡ code_of (tree_of source.now program.now)) }
+    ensures { IfOk result (λ v. v.items ≡ linearise (trans (tree_of source.now program.now))) }
 {
     let symbols = Symbols {
         source,

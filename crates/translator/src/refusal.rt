@@ -1,20 +1,44 @@
 // Why a source has no code to give.
 ghost use Rattle.std.specs.Prelude.{◌≡◌};
-ghost use Rattle.translator.specs.declared.refusal.Refusal.TheVariants.{Source, NoMemory};
+ghost use Rattle.translator.specs.declared.refusal.Refusal.TheVariants.{Naming, NoMemory};
 ghost use Rattle.translator.specs.Refusals.{number_of, place_of};
 
-use refusal::Refused;
 use std::alloc::AllocError;
 
-#[derive(Clone, Copy, PartialEq, Eq, Debug)]
+#[derive(Clone, Copy)]
 pub enum Refusal {
-    // one of the questions 1 to 8 is answered no
-    Source(frontend::refusal::Refusal),
+    Naming(names::refusal::Refusal),
     // over 4,096 instructions; the place of the first one too many
     TooMuchCode(u32),
     // a buffer is shorter than the code
     SmallBuffer,
     NoMemory,
+}
+
+impl Refusal {
+    // The number of the question that is answered no, or 40.
+    pub fn number(&self) -> u32
+        ensures { result ≡ number_of self.now }
+    {
+        match self {
+            Refusal::Naming(refusal) => refusal.number(),
+            Refusal::TooMuchCode(_) => 9,
+            Refusal::SmallBuffer => 10,
+            Refusal::NoMemory => 40,
+        }
+    }
+
+    // A place in the source.
+    pub fn place(&self) -> u32
+        ensures { result ≡ place_of self.now }
+    {
+        match self {
+            Refusal::Naming(refusal) => refusal.place(),
+            Refusal::TooMuchCode(place) => *place,
+            Refusal::SmallBuffer => 0,
+            Refusal::NoMemory => 0,
+        }
+    }
 }
 
 impl From<AllocError> for Refusal {
@@ -25,32 +49,10 @@ impl From<AllocError> for Refusal {
     }
 }
 
-impl From<frontend::refusal::Refusal> for Refusal {
-    ghost from_gives = { λ x y. y ≡ Source x };
+impl From<names::refusal::Refusal> for Refusal {
+    ghost from_gives = { λ x y. y ≡ Naming x };
 
-    fn from(refusal: frontend::refusal::Refusal) -> Refusal {
-        Refusal::Source(refusal)
-    }
-}
-
-impl From<Refusal> for Refused {
-    ghost from_gives = { λ e r. (r.number ≡ number_of e) × (r.place ≡ place_of e) };
-
-    fn from(refusal: Refusal) -> Refused {
-        match refusal {
-            Refusal::Source(refusal) => Refused::from(refusal),
-            Refusal::TooMuchCode(place) => Refused {
-                number: 9,
-                place: place as usize,
-            },
-            Refusal::SmallBuffer => Refused {
-                number: 10,
-                place: 0,
-            },
-            Refusal::NoMemory => Refused {
-                number: 40,
-                place: 0,
-            },
-        }
+    fn from(refusal: names::refusal::Refusal) -> Refusal {
+        Refusal::Naming(refusal)
     }
 }

@@ -13,7 +13,7 @@ check-statement-returns-in-err-check-condition t c =
 pub check-statement-returns-in-ok-check-condition : goal.check-statement-returns-in-ok-check-condition
 check-statement-returns-in-ok-check-condition t c =
     let s = c.args.source.now in
-    go_on (declared_of s c.args.declared.now) (uses_in_condition (condition_of s c.in-If.condition)) (uses_in_statement (statement_of s c.deref-in-If.result.now)) (uses_in_statement (statement_of s c.args.statement.now)) (ap (λ e. uses_in_statement (statement_of s e)) c.in-If.is ∙ ap (λ e. uses_in_condition (condition_of s c.in-If.condition) ++ uses_in_statement (statement_of s e)) (sym c.deref-in-If.ensures))
+    go_on (declared_of s c.args.declared.now) (uses_in_condition (condition_of s c.in-If.condition)) (uses_in_statement (statement_of s c.deref.result.now)) (uses_in_statement (statement_of s c.args.statement.now)) (ap (λ e. uses_in_statement (statement_of s e)) c.in-If.is ∙ ap (λ e. uses_in_condition (condition_of s c.in-If.condition) ++ uses_in_statement (statement_of s e)) (sym c.deref.ensures))
     c.check-statement.result c.in-ok-check-condition.ensures c.check-statement.ensures
 
 pub check-statement-returns-in-err-check-condition-3 : goal.check-statement-returns-in-err-check-condition-3

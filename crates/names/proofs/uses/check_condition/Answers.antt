@@ -1,4 +1,4 @@
-use Rattle.std.proofs.Common.{◌++◌, sym, ap, ◌∙◌}
+use Rattle.std.proofs.Common.{refl}
 use Rattle.syntax.specs.TreeOf.{declared_of, expression_of, condition_of}
 use Rattle.names.specs.Uses.{uses_in_expression, uses_in_condition}
 use Rattle.names.proofs.Sequences.{go_on, stop}
@@ -8,14 +8,12 @@ pub returns-in-err-check-expression : goal.returns-in-err-check-expression
 returns-in-err-check-expression c =
     let s = c.args.source.now in
     let condition = c.args.condition.now in
-    stop (declared_of s c.args.declared.now) (uses_in_expression (expression_of s c.deref.result.now)) (uses_in_expression (expression_of s condition.right.value)) (uses_in_condition (condition_of s condition))
-    (ap (λ e. uses_in_expression (expression_of s e) ++ uses_in_expression (expression_of s condition.right.value)) (sym c.deref.ensures))
+    stop (declared_of s c.args.declared.now) (uses_in_expression (expression_of s condition.left)) (uses_in_expression (expression_of s condition.right)) (uses_in_condition (condition_of s condition)) refl
     c.from-residual.result c.in-err-check-expression.field-0.0 c.in-err-check-expression.ensures c.from-residual.ensures.1
 
 pub returns : goal.returns
 returns c =
     let s = c.args.source.now in
     let condition = c.args.condition.now in
-    go_on (declared_of s c.args.declared.now) (uses_in_expression (expression_of s c.deref.result.now)) (uses_in_expression (expression_of s c.deref-2.result.now)) (uses_in_condition (condition_of s condition))
-    (ap (λ e. uses_in_expression (expression_of s e) ++ uses_in_expression (expression_of s condition.right.value)) (sym c.deref.ensures) ∙ ap (λ e. uses_in_expression (expression_of s c.deref.result.now) ++ uses_in_expression (expression_of s e)) (sym c.deref-2.ensures))
+    go_on (declared_of s c.args.declared.now) (uses_in_expression (expression_of s condition.left)) (uses_in_expression (expression_of s condition.right)) (uses_in_condition (condition_of s condition)) refl
     c.check-expression-2.result c.in-ok-check-expression.ensures c.check-expression-2.ensures

@@ -39,9 +39,8 @@ emit-if-else-returns t c =
 
 pub emit-statement-returns-in-ok-put : goal.emit-statement-returns-in-ok-put
 emit-statement-returns-in-ok-put t c =
-    twice (vec_items c.args.code.now) (expression_code c.args.symbols c.in-Assign.value.value) _
-    (c.in-ok-emit-expression.ensures ∙ ap (λ e. vec_items c.args.code.now ++ expression_code c.args.symbols e) c.deref.ensures) c.in-ok-put.ensures
-    ∙ ap (λ n. vec_items c.args.code.now ++ (expression_code c.args.symbols c.in-Assign.value.value ++ ((Store n, c.in-Assign.name.place) ∷ []))) c.cell.ensures
+    twice (vec_items c.args.code.now) (expression_code c.args.symbols c.in-Assign.value) _ c.in-ok-emit-expression.ensures c.in-ok-put.ensures
+    ∙ ap (λ n. vec_items c.args.code.now ++ (expression_code c.args.symbols c.in-Assign.value ++ ((Store n, c.in-Assign.name.place) ∷ []))) c.cell.ensures
     ∙ ap (λ x. vec_items c.args.code.now ++ statement_code c.args.symbols x (suc (length (vec_items c.args.code.now)))) (sym c.in-Assign.is)
 
 pub emit-statements-returns-in-ok-emit-statements : goal.emit-statements-returns-in-ok-emit-statements

@@ -1,43 +1,27 @@
-use Rattle.std.proofs.Common.{[], ◌∷◌, refl, ◌∙◌, arith}
+use Rattle.std.proofs.Common.{◌≡◌, [], ◌∷◌, length, refl, ap, ◌∙◌, arith}
 use Rattle.std.proofs.lemmas.Result.{IfOk-from_err}
-use Rattle.grammar.specs.Kinds.{RightParen, Semicolon}
-use Rattle.grammar.specs.Automaton.{identifier}
+use Rattle.grammar.specs.Kinds.{Assign, RightParen, Semicolon}
+use Rattle.grammar.specs.Automaton.{at_semicolon, at_paren, at_relation, braces, judge, token, identifier, expression, statement, tail}
+use Rattle.parser.specs.Reads.{ahead}
 use Rattle.parser.specs.Readers.{tokens}
-use Rattle.parser.proofs.Feeds.{gone}
-use Rattle.parser.proofs.Joined.{scan_spelled}
+use Rattle.parser.proofs.Fronts.{read_as}
+use Rattle.parser.proofs.Feeds.{gone, onward, fewer_behind, less_behind, taken, at_paren_lem, at_semicolon_lem, if_read, while_read, block_read, else_read, no_else, end_read, no_end, keyword_is}
 use Rattle.parser.proofs.reader.Reader.scan.Goals as goal
 
 pub returns-in-err-expect-all : goal.returns-in-err-expect-all
 returns-in-err-expect-all c = record {
-  reads = λ source s. gone _ c.from-residual.result _ c.from-residual.ensures.1 refl (c.in-err-expect-all.ensures.reads source (identifier ∷ tokens (RightParen ∷ (Semicolon ∷ [])) s));
+  takes = λ source s. gone _ c.from-residual.result _ c.from-residual.ensures.1 (refl) (c.in-err-expect-all.ensures.reads source (identifier ∷ tokens (RightParen ∷ (Semicolon ∷ [])) s));
   fewer = IfOk-from_err _ _ c.from-residual.ensures.0;
 }
 
 pub returns-in-err-name : goal.returns-in-err-name
 returns-in-err-name c = record {
-  reads = λ source s.
-      gone _ c.from-residual-in-err-name.result _ c.from-residual-in-err-name.ensures.1
-      (c.in-ok-expect-all.ensures.reads source (identifier ∷ tokens (RightParen ∷ (Semicolon ∷ [])) s)).0
-      (c.in-err-name.ensures.reads source (tokens (RightParen ∷ (Semicolon ∷ [])) s));
+  takes = λ source s. gone _ c.from-residual-in-err-name.result _ c.from-residual-in-err-name.ensures.1 (c.in-ok-expect-all.ensures.reads source (identifier ∷ tokens (RightParen ∷ (Semicolon ∷ [])) s)).0 (c.in-err-name.ensures.reads source (tokens (RightParen ∷ (Semicolon ∷ [])) s));
   fewer = IfOk-from_err _ _ c.from-residual-in-err-name.ensures.0;
-}
-
-pub returns-in-err-expect-all-2 : goal.returns-in-err-expect-all-2
-returns-in-err-expect-all-2 c = record {
-  reads = λ source s.
-      gone _ c.from-residual-in-err-expect-all-2.result _ c.from-residual-in-err-expect-all-2.ensures.1
-      ((c.in-ok-expect-all.ensures.reads source (identifier ∷ tokens (RightParen ∷ (Semicolon ∷ [])) s)).0
-      ∙ (c.in-ok-name.ensures.reads source (tokens (RightParen ∷ (Semicolon ∷ [])) s)).0)
-      (c.in-err-expect-all-2.ensures.reads source s);
-  fewer = IfOk-from_err _ _ c.from-residual-in-err-expect-all-2.ensures.0;
 }
 
 pub returns : goal.returns
 returns c = record {
-  reads = λ source s.
-      let front = c.in-ok-expect-all.ensures.reads source (identifier ∷ tokens (RightParen ∷ (Semicolon ∷ [])) s) in
-      let name = c.in-ok-name.ensures.reads source (tokens (RightParen ∷ (Semicolon ∷ [])) s) in
-      let close = c.in-ok-expect-all-2.ensures.reads source s in
-      (front.0 ∙ name.0 ∙ close.0, λ d p. scan_spelled d p front.1 name.1 close.1);
-  fewer = omega (arith, c.in-ok-expect-all.ensures.fewer, c.in-ok-name.ensures.fewer, c.in-ok-expect-all-2.ensures.fewer);
+  takes = λ source s. onward _ _ _ c.expect-all-2.result ((c.in-ok-expect-all.ensures.reads source (identifier ∷ tokens (RightParen ∷ (Semicolon ∷ [])) s)).0 ∙ (c.in-ok-name.ensures.reads source (tokens (RightParen ∷ (Semicolon ∷ [])) s)).0) (λ x h. tt) (c.expect-all-2.ensures.reads source s);
+  fewer = fewer_behind _ _ _ c.expect-all-2.result (omega (arith, c.in-ok-expect-all.ensures.fewer, c.in-ok-name.ensures.fewer)) c.expect-all-2.ensures.fewer;
 }

@@ -1,4 +1,0 @@
-pub mod Passed
-pub mod Stages
-pub mod Once
-pub mod Questions

@@ -1,0 +1,21 @@
+use Rattle.std.proofs.Common.{◌+◌, ◌*◌, length}
+use Rattle.parser.specs.Reads.{left}
+use Rattle.parser.proofs.reader.Reader.+block_if_statement_keyword_statement_statements_while_statement.Given as goal
+
+abbrev pub decreases-block : goal.decreases-block
+decreases-block l = 4 * length (left l.self.now) + 2
+
+abbrev pub decreases-if-statement : goal.decreases-if-statement
+decreases-if-statement l = 4 * length (left l.self.now) + 2
+
+abbrev pub decreases-keyword : goal.decreases-keyword
+decreases-keyword l = 4 * length (left l.self.now) + 3
+
+abbrev pub decreases-statement : goal.decreases-statement
+decreases-statement l = 4 * length (left l.self.now)
+
+abbrev pub decreases-statements : goal.decreases-statements
+decreases-statements l = 4 * length (left l.self.now) + 1
+
+abbrev pub decreases-while-statement : goal.decreases-while-statement
+decreases-while-statement l = 4 * length (left l.self.now) + 2

@@ -1,0 +1,26 @@
+-- Is every beginning of the tokens a beginning of a program within the depths 32 and 32, and the whole such a program?
+--   Refused    the case of a no, with its number and place; or there is no memory
+--   number_of   a refusal's number
+--   Answers    yes, or that no, whatever source the names stand in
+use Rattle.std.specs.Prelude.{ℕ, List, Result, MatchResult}
+use Rattle.syntax.specs.declared.token.Token as coded
+use Rattle.syntax.specs.Tokens.{tokens_of}
+use Rattle.grammar.specs.Kinds.{Token, kinds}
+use Rattle.grammar.specs.Grammar.{Program, Begins, BrokenAt}
+use Rattle.parser.specs.declared.refusal.Refusal.{Refusal}
+use Rattle.parser.specs.declared.refusal.Refusal.TheVariants.{TooSoon, Grammar, Depth, NoMemory}
+
+abbrev pub number_of : Refusal → ℕ
+number_of TooSoon = 4
+number_of (Grammar p) = 4
+number_of (Depth p) = 5
+number_of NoMemory = 40
+
+abbrev pub Refused : List Token → Refusal → Type 0
+Refused ts TooSoon = Begins 32 32 (kinds ts) × ¬ Program 32 32 (kinds ts)
+Refused ts (Grammar p) = BrokenAt 32 32 ts 4 p
+Refused ts (Depth p) = BrokenAt 32 32 ts 5 p
+Refused ts NoMemory = Unit {0}
+
+abbrev pub Answers : {X : Type 0} → List coded.Token → Result X Refusal → Type 0
+Answers tokens r = (source : List ℕ) → MatchResult r (λ _. Program 32 32 (kinds (tokens_of source tokens))) (Refused (tokens_of source tokens))

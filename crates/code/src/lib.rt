@@ -1,4 +1,6 @@
 // The instructions of the AM stack machine, and their 32-bit words.
+#![tactic(auto)]
+
 ghost use Rattle.code.specs.Words.{Encoded, Decoded, OneWordEach, Examples};
 ghost use Rattle.code.specs.Division.{RoundsDown};
 ghost use Rattle.code.specs.Advances.{AdvancesAddUp, AdvancesStayWithin};

@@ -1,4 +1,6 @@
 // Code as a person reads it: instructions by their names, places by line and column.
+#![tactic(auto)]
+
 ghost use Rattle.std.specs.Prelude.{◌≡◌, take, Some};
 ghost use Rattle.disassembly.specs.Text.{named, position};
 

@@ -1,4 +1,6 @@
 // What is proved of the grammar: each function's contract is one theorem over the definitions of specs/.
+#![tactic(auto)]
+
 ghost use Rattle.grammar.specs.Examples.{Examples};
 ghost use Rattle.grammar.specs.Theorems.{Unique, Accepts, Runs, Refuses, Judges, Places};
 

@@ -11,8 +11,8 @@ use Rattle.std.specs.List.{AllByRecursion as All}
 use Rattle.code.specs.declared.Instruction.{Instruction}
 use Rattle.code.specs.Words.{word_of, InRange}
 use Rattle.image.specs.Bounds.{inside, all_inside}
-use Rattle.image.specs.declared.refusal.Refusal.{Refusal}
-use Rattle.image.specs.declared.refusal.Refusal.TheVariants.{TooLong, NotInstruction, OutOfBounds, NoMemory}
+use Rattle.image.specs.declared.refusals.Refusal.{Refusal}
+use Rattle.image.specs.declared.refusals.Refusal.TheVariants.{TooLong, NotInstruction, OutOfBounds, NoMemory}
 
 pub record Decodes (ws : List ℕ) (is : List Instruction) : Type 0 where
   pub words : map word_of is ≡ ws

@@ -1,8 +1,8 @@
 -- The refusals of admission.
 --   number_of, place_of   a refusal's number, and the address it names; want of memory has a number of our own and names none
 use Rattle.std.specs.Prelude.{ℕ}
-use Rattle.image.specs.declared.refusal.Refusal.{Refusal}
-use Rattle.image.specs.declared.refusal.Refusal.TheVariants.{TooLong, NotInstruction, OutOfBounds, NoMemory}
+use Rattle.image.specs.declared.refusals.Refusal.{Refusal}
+use Rattle.image.specs.declared.refusals.Refusal.TheVariants.{TooLong, NotInstruction, OutOfBounds, NoMemory}
 
 abbrev pub number_of : Refusal → ℕ
 number_of TooLong = 11

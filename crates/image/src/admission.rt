@@ -5,7 +5,7 @@ ghost use Rattle.image.specs.Bounds.{cell_exists, target_exists, inside};
 ghost use Rattle.image.specs.Admission.{Checked, Admitted, Refuses};
 
 use crate::admitted::Image;
-use crate::refusal::Refusal;
+use crate::refusals::Refusal;
 use code::{Instruction, decode};
 use std::alloc::Global;
 

@@ -1,4 +1,6 @@
 // Images: code that a machine may run.
+#![tactic(auto)]
+
 pub mod admission;
 pub mod admitted;
-pub mod refusal;
+pub mod refusals;

@@ -1,4 +1,6 @@
 // From the bytes of a source to its tokens.
+#![tactic(auto)]
+
 ghost use Rattle.std.specs.Prelude.{◌≡◌, ℕ, ◌≤◌, List, length, IfOk, MatchResult};
 ghost use Rattle.std.specs.List.{AllByRecursion as All};
 ghost use Rattle.syntax.specs.Tokens.{token_of, tokens_of};

@@ -1,4 +1,6 @@
 // A signed 32-bit number as a text line: 11 columns and a line feed.
+#![tactic(auto)]
+
 ghost use Rattle.std.specs.Prelude.{◌≡◌, ◌≤◌, length, slice_index};
 ghost use Rattle.lines.specs.Lines.{line_of, Read, Numeral, Padded, OneLineEach};
 

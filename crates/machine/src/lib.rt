@@ -1,4 +1,6 @@
 // The AM machine: a run over an admitted image, an arithmetic unit and two tapes.
+#![tactic(auto)]
+
 pub mod calls;
 mod division;
 pub mod fault;

@@ -1,5 +1,7 @@
 // Small codes that meet each fault, end and lid, and how their runs stand then: for each advance its steps and status, then
 // counter, depth and top of the stack, the first two cells, and the fault.
+#![tactic(auto)]
+
 ghost use Rattle.std.specs.Prelude.{pos, negsuc};
 ghost use Rattle.units.specs.Narrowing.{strict};
 ghost use Rattle.std.proofs.Common.{rules};

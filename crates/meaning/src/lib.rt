@@ -1,4 +1,6 @@
 // What a source means, and that its code does it. Each function's contract is theorems over the definitions of specs/.
+#![tactic(auto)]
+
 ghost use Rattle.meaning.specs.Examples.{Examples};
 ghost use Rattle.meaning.specs.Promise.{RunsMeanSources, UnitsAgree, HistoriesMeanSources, HistoriesExist};
 ghost use Rattle.meaning.specs.Sources.{OneProgram, Shallow};

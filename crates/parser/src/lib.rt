@@ -1,4 +1,6 @@
 // Are the tokens of a source those of a program within both depths?
+#![tactic(auto)]
+
 ghost use Rattle.parser.specs.Promise.{Answers};
 
 mod expression;

@@ -1,4 +1,6 @@
 // Runs the words of a few loops for a number of steps, and tells the time that each took.
+#![tactic(auto)]
+
 use image::admission::admit;
 use machine::run::Run;
 use refusal::Refused;

@@ -1,4 +1,6 @@
 // A refusal as a person reads it: its number, and the place it names.
+#![tactic(auto)]
+
 ghost use Rattle.std.specs.Prelude.{◌++◌, Some};
 ghost use Rattle.refusal.specs.Sentence.{sentence};
 

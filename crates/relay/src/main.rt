@@ -1,4 +1,6 @@
 // Relays numbers from standard input to a tape, and tells what it does.
+#![tactic(auto)]
+
 mod relay;
 
 use layers::holder::Holder;

@@ -14,8 +14,8 @@ use Rattle.translator.specs.Written.{words_of, Fits}
 use Rattle.translator.proofs.Inside.{stays_inside}
 use Rattle.image.specs.Bounds.{inside, all_inside}
 use Rattle.image.specs.Admission.{Decodes, FirstNone, FirstOutside, Outside, Refuses}
-use Rattle.image.specs.declared.refusal.Refusal.{Refusal}
-use Rattle.image.specs.declared.refusal.Refusal.TheVariants.{TooLong, NotInstruction, OutOfBounds, NoMemory}
+use Rattle.image.specs.declared.refusals.Refusal.{Refusal}
+use Rattle.image.specs.declared.refusals.Refusal.TheVariants.{TooLong, NotInstruction, OutOfBounds, NoMemory}
 use Rattle.meaning.specs.Meaning.{Outcome, reported, meaning}
 use Rattle.meaning.specs.Promise.{code_of, total, advances, Reached, Promised}
 use Rattle.meaning.proofs.Booleans.{is_true}

@@ -16,8 +16,8 @@ use Rattle.code.specs.Machine.{Run, start, finish}
 use Rattle.translator.specs.Linear.{places}
 use Rattle.translator.specs.Written.{words_of, Fits}
 use Rattle.image.specs.Admission.{Decodes, Refuses}
-use Rattle.image.specs.declared.refusal.Refusal.{Refusal}
-use Rattle.image.specs.declared.refusal.Refusal.TheVariants.{NoMemory}
+use Rattle.image.specs.declared.refusals.Refusal.{Refusal}
+use Rattle.image.specs.declared.refusals.Refusal.TheVariants.{NoMemory}
 use Rattle.meaning.specs.Meaning.{meaning}
 use Rattle.meaning.specs.Promise.{code_of, total, advances, NarrowsInside, Call, Reached, Promised}
 use Rattle.meaning.specs.Sources.{Spells}

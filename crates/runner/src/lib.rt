@@ -1,4 +1,6 @@
 // From a source to the report of its run.
+#![tactic(auto)]
+
 pub mod drive;
 
 ghost use Rattle.runner.specs.Calls.{AlwaysAdmitted, CallsMeanSources, DrivesMeanSources};

@@ -3,7 +3,7 @@ ghost use Rattle.std.specs.Prelude.{◌≡◌, ◌≤◌, length, drop, MatchRes
 ghost use Rattle.texts.specs.Texts.{lines_of, numbers_in, Words, FirstBad, Checked};
 ghost use Rattle.texts.specs.Refusals.{place_of};
 
-use crate::refusal::Refusal;
+use crate::refusals::Refusal;
 use lines::read_line;
 use tapes::input::InputTape;
 

@@ -1,4 +1,6 @@
 // Tapes over text, one number to a line.
+#![tactic(auto)]
+
 pub mod input;
 pub mod output;
-pub mod refusal;
+pub mod refusals;

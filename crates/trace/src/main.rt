@@ -1,5 +1,7 @@
 // Traces the code of a data file on a text input tape from the standard input: for each state the address, the stack from
 // its top, the cells that are set and the instruction to come; then what was written, and how the run stands.
+#![tactic(auto)]
+
 use code::Instruction;
 use image::admission::admit;
 use machine::run::Run;

@@ -1,4 +1,6 @@
 // From a syntax tree to the code of the AM machine.
+#![tactic(auto)]
+
 ghost use Rattle.translator.specs.Bounds.{StaysInside};
 ghost use Rattle.translator.specs.Examples.{Published, Linear};
 ghost use Rattle.translator.specs.Published.{LabelledOnce, Linearised};

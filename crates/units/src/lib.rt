@@ -1,4 +1,6 @@
 // Arithmetic units: how exact results become 32-bit numbers, or nothing.
+#![tactic(auto)]
+
 pub mod arithmetic;
 pub mod clamped;
 pub mod strict;

@@ -1,7 +1,7 @@
 // Why words are no image.
 ghost use Rattle.std.specs.Prelude.{◌≡◌};
 ghost use Rattle.image.specs.Refusals.{number_of, place_of};
-ghost use Rattle.image.specs.declared.refusal.Refusal.TheVariants.{NoMemory};
+ghost use Rattle.image.specs.declared.refusals.Refusal.TheVariants.{NoMemory};
 
 use refusal::Refused;
 use std::alloc::AllocError;

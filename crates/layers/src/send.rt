@@ -5,8 +5,8 @@ ghost use Rattle.layers.specs.Layers.{Sent};
 use tapes::output::OutputTape;
 
 pub(crate) fn send<O: OutputTape>(output: &mut O, words: &[i32])
-    requires { length words.now ≤ (means output.old).room }
-    ensures { Sent (means output.old) words.now (means output.new) }
+    requires { length words.now ≤ (O.means output.old).room }
+    ensures { Sent (O.means output.old) words.now (O.means output.new) }
 {
     for word in words {
         let _ = output.put(*word);

@@ -16,7 +16,7 @@ fn check_name(source: &[u8], declared: &[Name], name: Name) -> Result<(), Refusa
     }
 }
 
-#[cycle(check_expression_check_factor_check_term)]
+#[cycle(expression_uses)]
 fn check_factor(source: &[u8], declared: &[Name], factor: &Factor) -> Result<(), Refusal>
     ensures { result ≡ outcome (first_undeclared (declared_of source.now declared.now) (uses_in_factor (factor_of source.now factor.now))) }
 {
@@ -27,7 +27,7 @@ fn check_factor(source: &[u8], declared: &[Name], factor: &Factor) -> Result<(),
     }
 }
 
-#[cycle(check_expression_check_factor_check_term)]
+#[cycle(expression_uses)]
 fn check_term(source: &[u8], declared: &[Name], term: &Term) -> Result<(), Refusal>
     ensures { result ≡ outcome (first_undeclared (declared_of source.now declared.now) (uses_in_term (term_of source.now term.now))) }
 {
@@ -40,7 +40,7 @@ fn check_term(source: &[u8], declared: &[Name], term: &Term) -> Result<(), Refus
     }
 }
 
-#[cycle(check_expression_check_factor_check_term)]
+#[cycle(expression_uses)]
 fn check_expression(
     source: &[u8],
     declared: &[Name],
@@ -65,7 +65,7 @@ fn check_condition(source: &[u8], declared: &[Name], condition: &Condition) -> R
     check_expression(source, declared, &condition.right)
 }
 
-#[cycle(check_statement_check_statements)]
+#[cycle(statement_uses)]
 fn check_statement(source: &[u8], declared: &[Name], statement: &Statement) -> Result<(), Refusal>
     ensures { result ≡ outcome (first_undeclared (declared_of source.now declared.now) (uses_in_statement (statement_of source.now statement.now))) }
 {
@@ -107,7 +107,7 @@ fn check_statement(source: &[u8], declared: &[Name], statement: &Statement) -> R
 }
 
 // The first name of the statements that is not declared, if there is one.
-#[cycle(check_statement_check_statements)]
+#[cycle(statement_uses)]
 pub fn check_statements(
     source: &[u8],
     declared: &[Name],

@@ -10,7 +10,7 @@ use syntax::token::{Additive, Kind, Mark};
 use syntax::tree::{Expression, Factor, Name, Term};
 
 impl Reader<'_> {
-    #[cycle(expression_factor_parenthesized_products_sums_term)]
+    #[cycle(expression_readers)]
     pub fn expression(&mut self, parens: u32) -> Result<Expression, Refusal>
         ensures reads { ReadsExpression self.old parens result self.new }
         ensures fewer { Fewer self.old result self.new }
@@ -21,7 +21,7 @@ impl Reader<'_> {
     }
 
     // The terms behind a first one.
-    #[cycle(expression_factor_parenthesized_products_sums_term)]
+    #[cycle(expression_readers)]
     fn sums(&mut self, left: Expression, parens: u32) -> Result<Expression, Refusal>
         ensures reads { ReadsSums self.old left parens result self.new }
         ensures fewer { Fewer self.old result self.new }
@@ -42,7 +42,7 @@ impl Reader<'_> {
         )
     }
 
-    #[cycle(expression_factor_parenthesized_products_sums_term)]
+    #[cycle(expression_readers)]
     fn term(&mut self, parens: u32) -> Result<Term, Refusal>
         ensures reads { ReadsTerm self.old parens result self.new }
         ensures fewer { Fewer self.old result self.new }
@@ -52,7 +52,7 @@ impl Reader<'_> {
     }
 
     // The factors behind a first one.
-    #[cycle(expression_factor_parenthesized_products_sums_term)]
+    #[cycle(expression_readers)]
     fn products(&mut self, left: Term, parens: u32) -> Result<Term, Refusal>
         ensures reads { ReadsProducts self.old left parens result self.new }
         ensures fewer { Fewer self.old result self.new }
@@ -73,7 +73,7 @@ impl Reader<'_> {
         )
     }
 
-    #[cycle(expression_factor_parenthesized_products_sums_term)]
+    #[cycle(expression_readers)]
     fn factor(&mut self, parens: u32) -> Result<Factor, Refusal>
         ensures reads { ReadsFactor self.old parens result self.new }
         ensures fewer { Fewer self.old result self.new }
@@ -102,7 +102,7 @@ impl Reader<'_> {
     }
 
     // A factor behind its open parenthesis.
-    #[cycle(expression_factor_parenthesized_products_sums_term)]
+    #[cycle(expression_readers)]
     fn parenthesized(&mut self, parens: u32) -> Result<Factor, Refusal>
         ensures reads { ReadsParenthesized self.old parens result self.new }
         ensures fewer { Fewer self.old result self.new }

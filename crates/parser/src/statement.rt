@@ -55,7 +55,7 @@ impl Reader<'_> {
     }
 
     // A statement with so many levels to spare below it.
-    #[cycle(block_if_statement_keyword_statement_statements_while_statement)]
+    #[cycle(statement_readers)]
     fn statement(&mut self, depth: u32) -> Result<(), Refusal>
         ensures takes { TakesStatement self.old depth result self.new }
         ensures less { Less self.old result self.new }
@@ -71,7 +71,7 @@ impl Reader<'_> {
     }
 
     // A statement behind its first token, which is no name.
-    #[cycle(block_if_statement_keyword_statement_statements_while_statement)]
+    #[cycle(statement_readers)]
     fn keyword(&mut self, mark: Mark, place: u32, depth: u32) -> Result<(), Refusal>
         ensures takes { TakesKeyword self.old mark place depth result self.new }
         ensures fewer { Fewer self.old result self.new }
@@ -96,7 +96,7 @@ impl Reader<'_> {
     }
 
     // An `else` belongs to the `if` whose body was read last.
-    #[cycle(block_if_statement_keyword_statement_statements_while_statement)]
+    #[cycle(statement_readers)]
     fn if_statement(&mut self, depth: u32) -> Result<(), Refusal>
         ensures takes { TakesIf self.old depth result self.new }
         ensures fewer { Fewer self.old result self.new }
@@ -109,7 +109,7 @@ impl Reader<'_> {
         self.statement(depth)
     }
 
-    #[cycle(block_if_statement_keyword_statement_statements_while_statement)]
+    #[cycle(statement_readers)]
     fn while_statement(&mut self, depth: u32) -> Result<(), Refusal>
         ensures takes { TakesWhile self.old depth result self.new }
         ensures fewer { Fewer self.old result self.new }
@@ -119,7 +119,7 @@ impl Reader<'_> {
     }
 
     // One or more statements behind their brace.
-    #[cycle(block_if_statement_keyword_statement_statements_while_statement)]
+    #[cycle(statement_readers)]
     fn block(&mut self, depth: u32) -> Result<(), Refusal>
         ensures takes { TakesBlock self.old depth result self.new }
         ensures fewer { Fewer self.old result self.new }
@@ -129,7 +129,7 @@ impl Reader<'_> {
     }
 
     // Statements up to this token, which is read too.
-    #[cycle(block_if_statement_keyword_statement_statements_while_statement)]
+    #[cycle(statement_readers)]
     pub fn statements(&mut self, end: Mark, depth: u32) -> Result<(), Refusal>
         ensures takes { TakesStatements self.old end depth result self.new }
         ensures fewer { Fewer self.old result self.new }

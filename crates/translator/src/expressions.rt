@@ -62,7 +62,7 @@ fn comparison(relation: Relation) -> Instruction
     }
 }
 
-#[cycle(emit_expression_emit_factor_emit_term)]
+#[cycle(expression_emitters)]
 fn emit_factor(
     symbols: Symbols<'_>,
     factor: &Factor,
@@ -81,7 +81,7 @@ fn emit_factor(
     }
 }
 
-#[cycle(emit_expression_emit_factor_emit_term)]
+#[cycle(expression_emitters)]
 fn emit_term(symbols: Symbols<'_>, term: &Term, code: &mut Vec<Placed>) -> Result<(), AllocError>
     ensures { OnOk result (code.new.items ≡ code.old.items ++ term_code symbols.entry term.now) }
 {
@@ -101,7 +101,7 @@ fn emit_term(symbols: Symbols<'_>, term: &Term, code: &mut Vec<Placed>) -> Resul
     }
 }
 
-#[cycle(emit_expression_emit_factor_emit_term)]
+#[cycle(expression_emitters)]
 pub fn emit_expression(
     symbols: Symbols<'_>,
     expression: &Expression,

@@ -26,7 +26,7 @@ fn patch(code: &mut Vec<Placed>, index: usize, jump: Instruction, place: u32)
     code[index] = (jump, place);
 }
 
-#[cycle(emit_if_emit_if_else_emit_statement_emit_statements_emit_while)]
+#[cycle(statement_emitters)]
 fn emit_if(
     symbols: Symbols<'_>,
     place: u32,
@@ -45,7 +45,7 @@ fn emit_if(
     Ok(())
 }
 
-#[cycle(emit_if_emit_if_else_emit_statement_emit_statements_emit_while)]
+#[cycle(statement_emitters)]
 fn emit_if_else(
     symbols: Symbols<'_>,
     place: u32,
@@ -71,7 +71,7 @@ fn emit_if_else(
     Ok(())
 }
 
-#[cycle(emit_if_emit_if_else_emit_statement_emit_statements_emit_while)]
+#[cycle(statement_emitters)]
 fn emit_while(
     symbols: Symbols<'_>,
     place: u32,
@@ -92,7 +92,7 @@ fn emit_while(
     Ok(())
 }
 
-#[cycle(emit_if_emit_if_else_emit_statement_emit_statements_emit_while)]
+#[cycle(statement_emitters)]
 fn emit_statement(
     symbols: Symbols<'_>,
     statement: &Statement,
@@ -139,7 +139,7 @@ fn emit_statement(
     }
 }
 
-#[cycle(emit_if_emit_if_else_emit_statement_emit_statements_emit_while)]
+#[cycle(statement_emitters)]
 pub fn emit_statements(
     symbols: Symbols<'_>,
     statements: &Statements,

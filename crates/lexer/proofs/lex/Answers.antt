@@ -8,23 +8,23 @@ use Rattle.lexer.proofs.Limits.{all_within, small_lexed, small_accepted, large_r
 use Rattle.lexer.proofs.Only.{lexical}
 use Rattle.lexer.proofs.lex.Goals as goal
 
-pub returns-then-source-gt-MAX-BYTES : goal.returns-then-source-gt-MAX-BYTES
-returns-then-source-gt-MAX-BYTES c =
+pub returns-then-source-gt-MAX_BYTES : goal.returns-then-source-gt-MAX_BYTES
+returns-then-source-gt-MAX_BYTES c =
     let s = c.args.source.now in
     record { answers = long_answer s (omega arith); lexemes = tt; within = tt; lexical = lexical s }
 
-pub returns-in-err-tokens : goal.returns-in-err-tokens
-returns-in-err-tokens c =
+pub returns-in_err-tokens : goal.returns-in_err-tokens
+returns-in_err-tokens c =
     let s = c.args.source.now in
-    let p = err_from_is_err_and c.from-residual.result c.from-residual.ensures.1 in
+    let p = err_from_is_err_and c.from_residual.result c.from_residual.ensures.1 in
     rw (p.1, p.2)
-    record { answers = stray_refused s c.in-err-tokens.field-0.0 (omega arith) c.in-err-tokens.ensures; lexemes = tt; within = tt; lexical = lexical s }
+    record { answers = stray_refused s c.in_err-tokens.field-0.0 (omega arith) c.in_err-tokens.ensures; lexemes = tt; within = tt; lexical = lexical s }
 
 pub returns-in-Some : goal.returns-in-Some
 returns-in-Some c =
     let s = c.args.source.now in
-    let ts = vec_items c.in-ok-tokens.tokens in
-    let cut = c.in-ok-tokens.ensures in
+    let ts = vec_items c.in_ok-tokens.tokens in
+    let cut = c.in_ok-tokens.ensures in
     let P : List Token → Type 0 = λ us. All (Within s) us in
     let first = c.in-Some.ensures s (subst P (sym c.deref.ensures.value) (all_within s ts cut)) ∙ ap (λ us. first_too_large (tokens_of s us)) c.deref.ensures.value in
     record { answers = large_refused s ts (omega arith) c.in-Some.place cut (sym first); lexemes = tt; within = tt; lexical = lexical s }
@@ -32,8 +32,8 @@ returns-in-Some c =
 pub returns-in-None : goal.returns-in-None
 returns-in-None c =
     let s = c.args.source.now in
-    let ts = vec_items c.in-ok-tokens.tokens in
-    let cut = c.in-ok-tokens.ensures in
+    let ts = vec_items c.in_ok-tokens.tokens in
+    let cut = c.in_ok-tokens.ensures in
     let P : List Token → Type 0 = λ us. All (Within s) us in
     let first = c.in-None.ensures s (subst P (sym c.deref.ensures.value) (all_within s ts cut)) ∙ ap (λ us. first_too_large (tokens_of s us)) c.deref.ensures.value in
     record {

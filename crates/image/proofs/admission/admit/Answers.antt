@@ -7,11 +7,11 @@ pub loop-k-preserved : goal.loop-k-preserved
 loop-k-preserved c =
     let inv = c.loop-k.invariant in
     let d = c.in-Some.ensures in
-    let items = c.push-reserved.ensures.items in (
-      omega (arith, c.push-reserved.ensures.len),
-      omega (arith, c.push-reserved.ensures.capacity),
+    let items = c.push_reserved.ensures.items in (
+      omega (arith, c.push_reserved.ensures.len),
+      omega (arith, c.push_reserved.ensures.capacity),
       subst (Decodes (take (c.loop-k.k + 1) c.args.words.now)) (sym items) (decodes_push c.args.words.now _ c.loop-k.k c.in-Some.instruction c.loop-k-test.true inv.2 d.0 d.1),
-      subst (λ is. Checked (length c.args.words.now) is c.first-outside-outside.result) (sym items) (c.first-outside-outside.ensures (vec_items c.loop-k.code) (omega (arith, c.loop-k.code.ok.0)) inv.3),
+      subst (λ is. Checked (length c.args.words.now) is c.first_outside-outside.result) (sym items) (c.first_outside-outside.ensures (vec_items c.loop-k.code) (omega (arith, c.loop-k.code.ok.0)) inv.3),
     )
 
 pub returns-in-Some-outside : goal.returns-in-Some-outside

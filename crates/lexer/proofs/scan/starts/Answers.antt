@@ -9,8 +9,8 @@ pub returns : goal.returns
 returns c =
     let text = c.args.text.now in
     let spelling = c.args.spelling.now in
-    let is = starts_is Decides-eqb text spelling c.starts-with.result c.starts-with.ensures.value in
+    let is = starts_is Decides-eqb text spelling c.starts_with.result c.starts_with.ensures.value in
     record {
-      value = same_from_decides c.starts-with.result (begins spelling text) (is.0, is.1 (drop (length spelling) text)) (begins_decides spelling text);
-      fits = c.starts-with.ensures.bound;
+      value = same_from_decides c.starts_with.result (begins spelling text) (is.0, is.1 (drop (length spelling) text)) (begins_decides spelling text);
+      fits = c.starts_with.ensures.bound;
     }

@@ -7,8 +7,8 @@ use Rattle.lexer.specs.Scan.{value_of}
 use Rattle.lexer.proofs.Values.{cut_step, digit_ge}
 use Rattle.lexer.proofs.scan.value.Goals as goal
 
-pub overflow-sub-digit : goal.overflow-sub-digit
-overflow-sub-digit c = digit_ge (get_or c.args.digits.now c.loop-digit.digit-index 0) (All-get_or (λ b. digit b ≡ true) c.args.digits.now c.loop-digit.digit-index 0 (omega arith) c.requires)
+pub overflow_sub-digit : goal.overflow_sub-digit
+overflow_sub-digit c = digit_ge (get_or c.args.digits.now c.loop-digit.digit-index 0) (All-get_or (λ b. digit b ≡ true) c.args.digits.now c.loop-digit.digit-index 0 (omega arith) c.requires)
 
 pub loop-digit-preserved : goal.loop-digit-preserved
 loop-digit-preserved c =

@@ -12,7 +12,7 @@ returns g c =
     let from = c.args.self.now in
     let to = c.if-self-eq16.self in
     let M : Holder g.row.O.Denot → Type 0 = λ h. Moved (holder_means from.held from.count (means from.below)) (holder_means h.held h.count (means h.below)) in
-    let moved : M to = elim c.if-self-eq16.branch [ then-self-eq16 w ↦ subst M (sym w.self-is) w.pass-down.ensures.moved | else-self-eq16 w ↦ subst M (sym w.self-is) (moved_none _) ] in
+    let moved : M to = elim c.if-self-eq16.branch [ then-self-eq16 w ↦ subst M (sym w.self-is) w.pass_down.ensures.moved | else-self-eq16 w ↦ subst M (sym w.self-is) (moved_none _) ] in
     let low : to.count < length to.held = search rules in
     let fits = c.ranges.x in
     record { put = simp to_z-of_z (put_keeps _ _ _ _ _ _ _ (omega arith) low moved); fit = λ _. omega (arith, moved.room) }

@@ -16,8 +16,8 @@ returns-in-err-name t c = record {
 
 pub returns-in-Some : goal.returns-in-Some
 returns-in-Some t c = record {
-  takes = λ source s. onward _ _ _ c.names.result (taken (c.in-Some.ensures.read source) (names ∷ s) (identifier ∷ (names ∷ s)) refl ∙ (c.in-ok-name.ensures.reads source (names ∷ s)).0) (λ x h. tt) (c.names.ensures.takes source s);
-  fewer = fewer_behind _ _ _ c.names.result (omega (arith, c.accept.ensures.fewer, c.in-ok-name.ensures.fewer)) c.names.ensures.fewer;
+  takes = λ source s. onward _ _ _ c.names.result (taken (c.in-Some.ensures.read source) (names ∷ s) (identifier ∷ (names ∷ s)) refl ∙ (c.in_ok-name.ensures.reads source (names ∷ s)).0) (λ x h. tt) (c.names.ensures.takes source s);
+  fewer = fewer_behind _ _ _ c.names.result (omega (arith, c.accept.ensures.fewer, c.in_ok-name.ensures.fewer)) c.names.ensures.fewer;
 }
 
 pub returns-in-err-expect : goal.returns-in-err-expect
@@ -27,7 +27,7 @@ returns-in-err-expect t c = record {
 }
 
 pub returns : goal.returns
-returns t c = record { takes = λ source s. (no_comma (ahead source c.args.self.now) (ahead source c.accept.new.self) (c.in-default.ensures.read source) s ∙ (c.in-ok-expect.ensures.reads source s).0, tt); fewer = omega (arith, c.accept.ensures.fewer, c.in-ok-expect.ensures.fewer) }
+returns t c = record { takes = λ source s. (no_comma (ahead source c.args.self.now) (ahead source c.accept.new.self) (c.in_default.ensures.read source) s ∙ (c.in_ok-expect.ensures.reads source s).0, tt); fewer = omega (arith, c.accept.ensures.fewer, c.in_ok-expect.ensures.fewer) }
 
 pub names-requires : goal.names-requires
-names-requires t c = (omega (arith, ap length (c.in-Some.ensures.read []), same_length [] (left c.args.self.now), same_length [] (left c.accept.new.self), c.in-ok-name.ensures.fewer), tt)
+names-requires t c = (omega (arith, ap length (c.in-Some.ensures.read []), same_length [] (left c.args.self.now), same_length [] (left c.accept.new.self), c.in_ok-name.ensures.fewer), tt)

@@ -3,8 +3,8 @@ use Rattle.grammar.specs.Kinds.{mark, same}
 use Rattle.parser.proofs.Fronts.{front, shorter, read_mark, starts_none, starts_not}
 use Rattle.parser.proofs.reader.Reader.accept.Goals as goal
 
-pub returns-in-default : goal.returns-in-default
-returns-in-default c = record { read = λ source. (refl, starts_none (same (mark c.args.mark)) source _ (omega (arith, ltb-true, ltb-false))); fewer = le_refl _ }
+pub returns-in_default : goal.returns-in_default
+returns-in_default c = record { read = λ source. (refl, starts_none (same (mark c.args.mark)) source _ (omega (arith, ltb-true, ltb-false))); fewer = le_refl _ }
 
 pub returns-then-not-is : goal.returns-then-not-is
 returns-then-not-is c = record {

@@ -8,23 +8,23 @@ use Rattle.parser.proofs.Fronts.{read_as}
 use Rattle.parser.proofs.Feeds.{gone, onward, fewer_behind, less_behind, taken, at_paren_lem, at_semicolon_lem, if_read, while_read, block_read, else_read, no_else, end_read, no_end, keyword_is}
 use Rattle.parser.proofs.reader.Reader.assignment.Goals as goal
 
-pub returns-in-err-expect : goal.returns-in-err-expect
-returns-in-err-expect c = record {
-  takes = λ source s. gone _ c.from-residual.result _ c.from-residual.ensures.1 (refl) (c.in-err-expect.ensures.reads source (expression 32 at_semicolon ∷ s));
-  fewer = IfOk-from_err _ _ c.from-residual.ensures.0;
+pub returns-in_err-expect : goal.returns-in_err-expect
+returns-in_err-expect c = record {
+  takes = λ source s. gone _ c.from_residual.result _ c.from_residual.ensures.1 (refl) (c.in_err-expect.ensures.reads source (expression 32 at_semicolon ∷ s));
+  fewer = IfOk-from_err _ _ c.from_residual.ensures.0;
 }
 
-pub returns-in-err-expression : goal.returns-in-err-expression
-returns-in-err-expression c = record {
-  takes = λ source s. gone _ c.from-residual-in-err-expression.result _ c.from-residual-in-err-expression.ensures.1 (c.in-ok-expect.ensures.reads source (expression 32 at_semicolon ∷ s)).0 (c.in-err-expression.ensures.reads source at_semicolon s);
-  fewer = IfOk-from_err _ _ c.from-residual-in-err-expression.ensures.0;
+pub returns-in_err-expression : goal.returns-in_err-expression
+returns-in_err-expression c = record {
+  takes = λ source s. gone _ c.from_residual-in_err-expression.result _ c.from_residual-in_err-expression.ensures.1 (c.in_ok-expect.ensures.reads source (expression 32 at_semicolon ∷ s)).0 (c.in_err-expression.ensures.reads source at_semicolon s);
+  fewer = IfOk-from_err _ _ c.from_residual-in_err-expression.ensures.0;
 }
 
-pub returns-in-err-expect-2 : goal.returns-in-err-expect-2
-returns-in-err-expect-2 c = record {
-  takes = λ source s. gone _ c.from-residual-in-err-expect-2.result _ c.from-residual-in-err-expect-2.ensures.1 ((c.in-ok-expect.ensures.reads source (expression 32 at_semicolon ∷ s)).0 ∙ (c.in-ok-expression.ensures.reads source at_semicolon s).0 ∙ at_semicolon_lem (ahead source c.expression.new.self) s) (c.in-err-expect-2.ensures.reads source s);
-  fewer = IfOk-from_err _ _ c.from-residual-in-err-expect-2.ensures.0;
+pub returns-in_err-expect-2 : goal.returns-in_err-expect-2
+returns-in_err-expect-2 c = record {
+  takes = λ source s. gone _ c.from_residual-in_err-expect-2.result _ c.from_residual-in_err-expect-2.ensures.1 ((c.in_ok-expect.ensures.reads source (expression 32 at_semicolon ∷ s)).0 ∙ (c.in_ok-expression.ensures.reads source at_semicolon s).0 ∙ at_semicolon_lem (ahead source c.expression.new.self) s) (c.in_err-expect-2.ensures.reads source s);
+  fewer = IfOk-from_err _ _ c.from_residual-in_err-expect-2.ensures.0;
 }
 
 pub returns : goal.returns
-returns c = record { takes = λ source s. ((c.in-ok-expect.ensures.reads source (expression 32 at_semicolon ∷ s)).0 ∙ (c.in-ok-expression.ensures.reads source at_semicolon s).0 ∙ at_semicolon_lem (ahead source c.expression.new.self) s ∙ (c.in-ok-expect-2.ensures.reads source s).0, tt); fewer = omega (arith, c.in-ok-expect.ensures.fewer, c.in-ok-expression.ensures.fewer, c.in-ok-expect-2.ensures.fewer) }
+returns c = record { takes = λ source s. ((c.in_ok-expect.ensures.reads source (expression 32 at_semicolon ∷ s)).0 ∙ (c.in_ok-expression.ensures.reads source at_semicolon s).0 ∙ at_semicolon_lem (ahead source c.expression.new.self) s ∙ (c.in_ok-expect-2.ensures.reads source s).0, tt); fewer = omega (arith, c.in_ok-expect.ensures.fewer, c.in_ok-expression.ensures.fewer, c.in_ok-expect-2.ensures.fewer) }

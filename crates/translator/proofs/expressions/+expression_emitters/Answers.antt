@@ -1,7 +1,7 @@
 use Rattle.std.proofs.Common.{◌++◌, vec_items, sym, refl, ap, ◌∙◌}
 use Rattle.translator.specs.Emitted.{factor_code, term_code, expression_code}
 use Rattle.translator.proofs.Appended.{twice, joined}
-use Rattle.translator.proofs.expressions.+emit_expression_emit_factor_emit_term.Goals as goal
+use Rattle.translator.proofs.expressions.+expression_emitters.Goals as goal
 
 pub emit-expression-returns-in-ok-put-2 : goal.emit-expression-returns-in-ok-put-2
 emit-expression-returns-in-ok-put-2 t c =

@@ -6,7 +6,7 @@ use Rattle.parser.specs.Reads.{ahead}
 use Rattle.parser.specs.Readers.{tokens}
 use Rattle.parser.proofs.Fronts.{read_as}
 use Rattle.parser.proofs.Feeds.{gone, onward, fewer_behind, less_behind, fewer_of_less, taken, at_paren_lem, at_semicolon_lem, if_read, while_read, block_read, else_read, no_else, end_read, no_end, keyword_is}
-use Rattle.parser.proofs.reader.Reader.+block_if_statement_keyword_statement_statements_while_statement.Goals as goal
+use Rattle.parser.proofs.reader.Reader.+statement_readers.Goals as goal
 
 pub statement-returns-in-Name : goal.statement-returns-in-Name
 statement-returns-in-Name t c = record {

@@ -1,6 +1,6 @@
 use Rattle.std.proofs.Common.{◌+◌, ◌*◌, length}
 use Rattle.parser.specs.Reads.{left}
-use Rattle.parser.proofs.reader.Reader.+block_if_statement_keyword_statement_statements_while_statement.Given as goal
+use Rattle.parser.proofs.reader.Reader.+statement_readers.Given as goal
 
 abbrev pub decreases-block : goal.decreases-block
 decreases-block l = 4 * length (left l.self.now) + 2

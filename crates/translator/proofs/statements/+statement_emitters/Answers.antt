@@ -3,7 +3,7 @@ use Rattle.code.specs.declared.Instruction.TheVariants.{Store}
 use Rattle.translator.specs.Emitted.{expression_code, condition_code, statement_code, statements_code}
 use Rattle.translator.proofs.Appended.{twice}
 use Rattle.translator.proofs.Patched.{followed, within, if_made, branch_within, while_made, skip_within, else_made}
-use Rattle.translator.proofs.statements.+emit_if_emit_if_else_emit_statement_emit_statements_emit_while.Goals as goal
+use Rattle.translator.proofs.statements.+statement_emitters.Goals as goal
 
 pub emit-if-patch-requires : goal.emit-if-patch-requires
 emit-if-patch-requires t c =

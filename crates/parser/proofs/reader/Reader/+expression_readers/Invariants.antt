@@ -1,6 +1,6 @@
 use Rattle.std.proofs.Common.{◌+◌, ◌*◌, length}
 use Rattle.parser.specs.Reads.{left}
-use Rattle.parser.proofs.reader.Reader.+expression_factor_parenthesized_products_sums_term.Given as goal
+use Rattle.parser.proofs.reader.Reader.+expression_readers.Given as goal
 
 abbrev pub decreases-expression : goal.decreases-expression
 decreases-expression l = 4 * length (left l.self.now) + 2

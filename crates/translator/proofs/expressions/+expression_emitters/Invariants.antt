@@ -1,7 +1,7 @@
 use Rattle.syntax.proofs.tree.Expression.TheLaws as expression
 use Rattle.syntax.proofs.tree.Factor.TheLaws as factor
 use Rattle.syntax.proofs.tree.Term.TheLaws as term
-use Rattle.translator.proofs.expressions.+emit_expression_emit_factor_emit_term.Given as goal
+use Rattle.translator.proofs.expressions.+expression_emitters.Given as goal
 
 abbrev pub decreases-emit-expression : goal.decreases-emit-expression
 decreases-emit-expression l = expression.the_size l.expression.now

@@ -2,7 +2,7 @@ use Rattle.std.proofs.Common.{◌≡◌, ◌++◌, sym, ap, ◌∙◌}
 use Rattle.syntax.specs.TreeOf.{declared_of, factor_of, term_of, expression_of}
 use Rattle.names.specs.Uses.{uses_in_factor, uses_in_term, uses_in_expression}
 use Rattle.names.proofs.Sequences.{go_on, stop}
-use Rattle.names.proofs.uses.+check_expression_check_factor_check_term.Goals as goal
+use Rattle.names.proofs.uses.+expression_uses.Goals as goal
 
 pub check-expression-returns-in-err-check-expression : goal.check-expression-returns-in-err-check-expression
 check-expression-returns-in-err-check-expression t c =

@@ -2,7 +2,7 @@ use Rattle.std.proofs.Common.{◌≡◌, ◌++◌, sym, refl, ap, ◌∙◌}
 use Rattle.syntax.specs.TreeOf.{declared_of, condition_of, statement_of, statements_of}
 use Rattle.names.specs.Uses.{uses_in_condition, uses_in_statement, uses_in_statements}
 use Rattle.names.proofs.Sequences.{go_on, stop}
-use Rattle.names.proofs.uses.+check_statement_check_statements.Goals as goal
+use Rattle.names.proofs.uses.+statement_uses.Goals as goal
 
 pub check-statement-returns-in-err-check-condition : goal.check-statement-returns-in-err-check-condition
 check-statement-returns-in-err-check-condition t c =

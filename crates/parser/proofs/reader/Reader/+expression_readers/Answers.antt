@@ -9,7 +9,7 @@ use Rattle.parser.specs.Reads.{ahead}
 use Rattle.parser.proofs.Fronts.{read_as}
 use Rattle.parser.proofs.Feeds.{gone, onward, fewer_behind, peeked_fewer, taken, at_paren_lem, number_read, sign_read, sum_read, no_sum, product_read, no_product, paren_read}
 use Rattle.parser.proofs.Spelled.{refitted, products_end, sums_end, variable_spelled, literal_spelled, paren_spelled, term_spelled, product_spelled, sum_spelled, expression_spelled}
-use Rattle.parser.proofs.reader.Reader.+expression_factor_parenthesized_products_sums_term.Goals as goal
+use Rattle.parser.proofs.reader.Reader.+expression_readers.Goals as goal
 
 pub expression-returns-in-err-first : goal.expression-returns-in-err-first
 expression-returns-in-err-first t c = record {
@@ -23,12 +23,12 @@ expression-returns-in-err-first t c = record {
 pub expression-returns : goal.expression-returns
 expression-returns t c = record {
   reads = λ source x s.
-      let term = c.in-ok-first.ensures.reads source x s in
+      let term = c.in_ok-first.ensures.reads source x s in
       onward _ _ _ c.sums.result
       (sign_read _ _ c.additive-sign.result (c.additive-sign.ensures.read source) c.args.parens x s ∙ term.0)
       (λ e h. expression_spelled c.args.parens _ _ _ _ c.additive-sign.result _ _ _ (c.signed.ensures source) (c.additive-sign.ensures.read source) term.1 h)
       (c.sums.ensures.reads source x s);
-  fewer = fewer_behind _ _ _ c.sums.result (omega (arith, c.in-ok-first.ensures.fewer, peeked_fewer _ _ c.additive-sign.result c.additive-sign.ensures.fewer)) c.sums.ensures.fewer;
+  fewer = fewer_behind _ _ _ c.sums.result (omega (arith, c.in_ok-first.ensures.fewer, peeked_fewer _ _ c.additive-sign.result c.additive-sign.ensures.fewer)) c.sums.ensures.fewer;
 }
 
 pub factor-returns-in-Name : goal.factor-returns-in-Name
@@ -76,10 +76,10 @@ parenthesized-returns-in-err-expect t c = record {
 pub parenthesized-returns : goal.parenthesized-returns
 parenthesized-returns t c = record {
   reads = λ source s.
-      let inner = c.in-ok-inner.ensures.reads source at_paren s in
-      let close = c.in-ok-expect.ensures.reads source s in
-      (inner.0 ∙ at_paren_lem (ahead source c.expression.new.self) s ∙ close.0, λ p. paren_spelled c.args.parens p (ap (expression_of source) c.in-ok-inner-2.ensures.made) inner.1 close.1);
-  fewer = omega (arith, c.in-ok-inner.ensures.fewer, c.in-ok-expect.ensures.fewer);
+      let inner = c.in_ok-inner.ensures.reads source at_paren s in
+      let close = c.in_ok-expect.ensures.reads source s in
+      (inner.0 ∙ at_paren_lem (ahead source c.expression.new.self) s ∙ close.0, λ p. paren_spelled c.args.parens p (ap (expression_of source) c.in_ok-inner-2.ensures.made) inner.1 close.1);
+  fewer = omega (arith, c.in_ok-inner.ensures.fewer, c.in_ok-expect.ensures.fewer);
 }
 
 pub products-returns-in-default : goal.products-returns-in-default
@@ -103,12 +103,12 @@ pub products-returns : goal.products-returns
 products-returns t c = record {
   reads = λ source x s.
       let operator = c.in-Some.ensures.read source in
-      let right = c.in-ok-right.ensures.reads source x s in
+      let right = c.in_ok-right.ensures.reads source x s in
       onward _ _ _ c.products.result
       (product_read operator c.args.parens x s ∙ right.0)
-      (λ u h. product_spelled c.args.parens (ap (term_of source) c.in-ok-left.ensures.made) operator right.1 h)
+      (λ u h. product_spelled c.args.parens (ap (term_of source) c.in_ok-left.ensures.ok) operator right.1 h)
       (c.products.ensures.reads source x s);
-  fewer = fewer_behind _ _ _ c.products.result (omega (arith, c.in-Some.ensures.fewer, c.in-ok-right.ensures.fewer)) c.products.ensures.fewer;
+  fewer = fewer_behind _ _ _ c.products.result (omega (arith, c.in-Some.ensures.fewer, c.in_ok-right.ensures.fewer)) c.products.ensures.fewer;
 }
 
 pub sums-returns-in-default : goal.sums-returns-in-default
@@ -132,12 +132,12 @@ pub sums-returns : goal.sums-returns
 sums-returns t c = record {
   reads = λ source x s.
       let operator = c.in-Some.ensures.read source in
-      let right = c.in-ok-right.ensures.reads source x s in
+      let right = c.in_ok-right.ensures.reads source x s in
       onward _ _ _ c.sums.result
       (sum_read operator c.args.parens x s ∙ right.0)
-      (λ e h. sum_spelled c.args.parens (ap (expression_of source) c.in-ok-left.ensures.made) operator right.1 h)
+      (λ e h. sum_spelled c.args.parens (ap (expression_of source) c.in_ok-left.ensures.ok) operator right.1 h)
       (c.sums.ensures.reads source x s);
-  fewer = fewer_behind _ _ _ c.sums.result (omega (arith, c.in-Some.ensures.fewer, c.in-ok-right.ensures.fewer)) c.sums.ensures.fewer;
+  fewer = fewer_behind _ _ _ c.sums.result (omega (arith, c.in-Some.ensures.fewer, c.in_ok-right.ensures.fewer)) c.sums.ensures.fewer;
 }
 
 pub term-returns-in-err-first : goal.term-returns-in-err-first
@@ -149,7 +149,7 @@ term-returns-in-err-first t c = record {
 pub term-returns : goal.term-returns
 term-returns t c = record {
   reads = λ source x s.
-      let first = c.in-ok-first.ensures.reads source x s in
+      let first = c.in_ok-first.ensures.reads source x s in
       onward _ _ _ c.products.result first.0 (λ u h. term_spelled c.args.parens first.1 h) (c.products.ensures.reads source x s);
-  fewer = fewer_behind _ _ _ c.products.result (omega (arith, c.in-ok-first.ensures.fewer)) c.products.ensures.fewer;
+  fewer = fewer_behind _ _ _ c.products.result (omega (arith, c.in_ok-first.ensures.fewer)) c.products.ensures.fewer;
 }

@@ -1,7 +1,7 @@
 use Rattle.std.proofs.Common.{◌+◌, ◌*◌}
 use Rattle.syntax.proofs.tree.Statement.TheLaws as statement
 use Rattle.syntax.proofs.tree.Statements.TheLaws as statements
-use Rattle.translator.proofs.statements.+emit_if_emit_if_else_emit_statement_emit_statements_emit_while.Given as goal
+use Rattle.translator.proofs.statements.+statement_emitters.Given as goal
 
 abbrev pub decreases-emit-if : goal.decreases-emit-if
 decreases-emit-if l = 2 * statement.the_size l.body.now + 1

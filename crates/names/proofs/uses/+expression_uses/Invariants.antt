@@ -1,13 +1,13 @@
 use Rattle.syntax.proofs.tree.Expression.TheLaws as expression
 use Rattle.syntax.proofs.tree.Factor.TheLaws as factor
 use Rattle.syntax.proofs.tree.Term.TheLaws as term
-use Rattle.names.proofs.uses.+check_expression_check_factor_check_term.Given as goal
+use Rattle.names.proofs.uses.+expression_uses.Given as goal
 
-abbrev pub decreases-check-expression : goal.decreases-check-expression
+abbrev pub decreases-check-expression : goal.decreases-check_expression
 decreases-check-expression l = expression.the_size l.expression.now
 
-abbrev pub decreases-check-factor : goal.decreases-check-factor
+abbrev pub decreases-check-factor : goal.decreases-check_factor
 decreases-check-factor l = factor.the_size l.factor.now
 
-abbrev pub decreases-check-term : goal.decreases-check-term
+abbrev pub decreases-check-term : goal.decreases-check_term
 decreases-check-term l = term.the_size l.term.now

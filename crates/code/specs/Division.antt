@@ -1,7 +1,7 @@
 -- Division of whole numbers, rounded down. Sources and machine share this one definition, which its law fixes.
 --   quotient     the greatest whole number not above the exact quotient
 --   remainder    what is left of the dividend
---   is_zero       whether a number is 0
+--   is_zero      whether a number is 0
 --   RoundsDown   the law: quotient and remainder make up the dividend, and the remainder has its divisor's sign and is nearer to 0
 use Rattle.std.specs.Prelude.{◌≡◌, ℕ, zero, suc, ◌/◌, Bool, true, false, ℤ, pos, negsuc, ◌+ℤ◌, ◌-ℤ◌, ◌*ℤ◌, ◌≤ℤ◌, ◌<ℤ◌}
 

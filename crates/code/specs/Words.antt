@@ -1,11 +1,11 @@
 -- The words of instructions.
---   Short        a literal of 31 bits, two's complement
---   InRange      a literal has 31 bits, an operand 16
+--   Short         a literal of 31 bits, two's complement
+--   InRange       a literal has 31 bits, an operand 16
 --   word_of       the word of an instruction
---   Encoded      what encoding an instruction answers
---   Decoded      what decoding a word answers
---   OneWordEach     each instruction in range has one word, its own, and decoding undoes encoding
---   Examples     two words worked out
+--   Encoded       what encoding an instruction answers
+--   Decoded       what decoding a word answers
+--   OneWordEach   each instruction in range has one word, its own, and decoding undoes encoding
+--   Examples      two words worked out
 use Rattle.std.specs.Prelude.{◌≡◌, ℕ, ◌+◌, ◌-◌, ◌*◌, ◌^◌, ◌<◌, ◌↔◌, ℤ, pos, negsuc, Some, None, Option, ◌≢◌}
 use Rattle.code.specs.declared.Instruction.{Instruction}
 use Rattle.code.specs.declared.Instruction.TheVariants.{Literal, Read, Write, Load, Store, Jump, JumpIfZero, Add, Subtract, Multiply, Divide, Modulo, Less, Equal, Unequal, Greater, AtMost, AtLeast}

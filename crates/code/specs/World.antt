@@ -1,11 +1,11 @@
 -- What sources and machine both speak of. No act stands here.
---   Tapes        both tapes by their meanings: waiting list, list written, room, and pinch (depth and reason: 1 full, 2 quota)
---   World        cells and tapes; a cell is unset (None) or holds a number
---   Fault        a cause from 20 on, and for 21 the pinch
---   Report       what is told at the end; a fault comes with the place of its token
+--   Tapes            both tapes by their meanings: waiting list, list written, room, and pinch (depth and reason: 1 full, 2 quota)
+--   World            cells and tapes; a cell is unset (None) or holds a number
+--   Fault            a cause from 20 on, and for 21 the pinch
+--   Report           what is told at the end; a fault comes with the place of its token
 --   ArithmeticUnit   a range, and how exact numbers are brought into it
---   Inside       a number lies in a unit's range
---   Lawful       the laws of a unit
+--   Inside           a number lies in a unit's range
+--   Lawful           the laws of a unit
 use Rattle.std.specs.Prelude.{◌≡◌, ℕ, List, ℤ, pos, negsuc, ◌≤ℤ◌, Some, None, Option}
 
 pub record Tapes : Type 0 where

@@ -1,26 +1,26 @@
 -- The tokens of a source, and the first three questions put to it.
---   Lexeme          a token and how many bytes it has
---   tokens          the tokens of some lexemes
---   Lexed           lexemes; or a byte where no token starts
---   before          lexemes that come first
---   lexeme          a lexeme from its kind, place and length
---   found           what is read from a place on, given what was found there
---   lexed           what a text gives that begins at place p, its first k bytes inside a token
---   lexing          what a whole source gives
---   too_large       a name over 16 bytes, a number over 1,073,741,823
---   first_too_large  where the first such token begins
---   Answer          accepted with tokens; or refused with a number, at a place
---   sized           the third question
---   read            the second and the third
---   answer          the three questions in their order: the first that is answered no
---   lexeme_of       a token of the code, read from the source; lexemes_of, some of them
---   number_of        the number of a refusal
---   place_of         the place of a refusal
---   Says            a refusal has the number and the place of the answer
---   Refuses         it does, or memory was wanting behind the first question
---   Strays          a refusal of the first pass, which asks the second question
---   Within          a token of the code lies in the source
---   limited_lexeme  a lexeme with a number cut as the first pass keeps it; limited_all, all of them
+--   Lexeme            a token and how many bytes it has
+--   tokens            the tokens of some lexemes
+--   Lexed             lexemes; or a byte where no token starts
+--   before            lexemes that come first
+--   lexeme            a lexeme from its kind, place and length
+--   found             what is read from a place on, given what was found there
+--   lexed             what a text gives that begins at place p, its first k bytes inside a token
+--   lexing            what a whole source gives
+--   too_large         a name over 16 bytes, a number over 1,073,741,823
+--   first_too_large   where the first such token begins
+--   Answer            accepted with tokens; or refused with a number, at a place
+--   sized             the third question
+--   read              the second and the third
+--   answer            the three questions in their order: the first that is answered no
+--   lexeme_of         a token of the code, read from the source; lexemes_of, some of them
+--   number_of         the number of a refusal
+--   place_of          the place of a refusal
+--   Says              a refusal has the number and the place of the answer
+--   Refuses           it does, or memory was wanting behind the first question
+--   Strays            a refusal of the first pass, which asks the second question
+--   Within            a token of the code lies in the source
+--   limited_lexeme    a lexeme with a number cut as the first pass keeps it; limited_all, all of them
 use Rattle.std.specs.Prelude.{◌≡◌, ℕ, ◌+◌, ◌-◌, ◌≤◌, Bool, true, false, cond, List, [], ◌∷◌, ◌++◌, map, length, Some, None, Option, nat_lt}
 use Rattle.syntax.specs.declared.token.Token as coded
 use Rattle.syntax.specs.Tokens.{Kind, mark, name, number, relation, additive, multiplicative, Token, token_of}

@@ -1,20 +1,20 @@
 -- The token that starts at the front of a text.
---   Spelling      bytes, and the kind of token that they spell
---   reserved      the reserved words
---   symbols       the tokens that are no words, numbers or heads, longest first
---   spelled_by    the kind of a word, by a list of spellings; a name if it is not among them
---   word_kind     a reserved word, or else a name
+--   Spelling       bytes, and the kind of token that they spell
+--   reserved       the reserved words
+--   symbols        the tokens that are no words, numbers or heads, longest first
+--   spelled_by     the kind of a word, by a list of spellings; a name if it is not among them
+--   word_kind      a reserved word, or else a name
 --   value_of       the number that digits write
---   zero_first    two digits or more, of which the first is 0
+--   zero_first     two digits or more, of which the first is 0
 --   word_at        a word at the front, and its length
 --   number_at      a number at the front, and its length
---   head_at       a head at the front, and its length; head_end, what is left of it behind `#include`
+--   head_at        a head at the front, and its length; head_end, what is left of it behind `#include`
 --   first_of       the first spelling of a list that the text begins with
 --   symbol_at      a symbol at the front, and its length
---   scanned       the token at the front, and its length; or that none starts there
---   limited_kind  a kind with a number cut at 1,073,741,824, one more than the greatest
---   limited       the same of what is found
---   seen          what the code found there, a name with its bytes
+--   scanned        the token at the front, and its length; or that none starts there
+--   limited_kind   a kind with a number cut at 1,073,741,824, one more than the greatest
+--   limited        the same of what is found
+--   seen           what the code found there, a name with its bytes
 use Rattle.std.specs.Prelude.{ℕ, ◌+◌, ◌-◌, ◌*◌, min, Bool, true, false, cond, ◌&&◌, List, [], ◌∷◌, length, take, drop, Some, None, codes, fold, Option, ◌==◌, nat_le}
 use Rattle.std.specs.List.{prefix_len}
 use Rattle.std.specs.Str.{bytes_eq}

@@ -1,9 +1,9 @@
 -- The text line of a signed 32-bit number.
---   Word          a number of 32 bits
---   line_of        its line: 11 columns, the number to the right, and a line feed
---   Read          what reading some bytes answers
---   number_in      the number of a line, read off its bytes
---   OneLineEach     each number has one line of 12 bytes, its own
+--   Word              a number of 32 bits
+--   line_of           its line: 11 columns, the number to the right, and a line feed
+--   Read              what reading some bytes answers
+--   number_in         the number of a line, read off its bytes
+--   OneLineEach       each number has one line of 12 bytes, its own
 --   Numeral, Padded   what the parts of a reader answer
 use Rattle.std.specs.Prelude.{◌≡◌, ℕ, zero, suc, ◌+◌, ◌-◌, ◌*◌, ◌^◌, ◌<◌, ◌≤◌, Bool, true, false, cond, ◌||◌, List, [], ◌∷◌, ◌++◌, length, take, replicate, ℤ, pos, negsuc, neg_ℤ, Some, None, decimal, Option, ◌==◌, ◌≢◌, nat_lt, slice_index, slice_index_or}
 use Rattle.std.specs.Int.Signed.{mag}

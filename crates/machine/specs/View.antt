@@ -1,16 +1,16 @@
 -- What a run stands for: the state of the machine AM.
---   unit_of       a unit by its range and its narrowing
---   tops         the stack as a list: the first n words of its memory, the last of them first
---   tapes_of     both tapes by their meanings
---   world_of     cells and tapes
---   run_of        the state of the machine
---   closed       a state after an instruction's answer: a step more, or a fault at its address
---   Done         an instruction came to this step
---   Acted        an instruction was executed as the meaning of code says
---   Stacked      counter and stack alone became these
---   Operands     the two upper words, the left one first
---   Popped       the top word
---   truth        the word of an answer
+--   unit_of    a unit by its range and its narrowing
+--   tops       the stack as a list: the first n words of its memory, the last of them first
+--   tapes_of   both tapes by their meanings
+--   world_of   cells and tapes
+--   run_of     the state of the machine
+--   closed     a state after an instruction's answer: a step more, or a fault at its address
+--   Done       an instruction came to this step
+--   Acted      an instruction was executed as the meaning of code says
+--   Stacked    counter and stack alone became these
+--   Operands   the two upper words, the left one first
+--   Popped     the top word
+--   truth      the word of an answer
 use Rattle.std.specs.Prelude.{◌≡◌, ℕ, zero, suc, ◌<◌, Bool, true, false, List, [], ◌∷◌, length, drop, ℤ, pos, negsuc, ◌≤ℤ◌, Some, None, Ok, Err, Option, Result, slice_index_or}
 use Rattle.tapes.specs.Meaning.{Meaning, KeptAtRest}
 use Rattle.code.specs.declared.Instruction.{Instruction}

@@ -1,20 +1,20 @@
 -- What is promised of the runs of a program's code.
---   code_of               the published code of a program, linearised
---   total, advances      the sum of some allowances, and the run after advances with them
---   finishing            what is told of a run of some code
---   RunsMeanSources      any advances, then finishing, tell what the program means
---   narrowed             every number that had to be narrowed on the way to an outcome
---   NarrowsInside        all of those under one unit lie in its range and in another's
---   UnitsAgree           then the other unit gives the same
---   Call                 an advance as its caller sees it: the allowance, and the steps and status that it gave
---   Gave                 a call led from one run to another, and gave what it has
---   Reached              some calls, latest first, led from the start to a run
---   allowed, made        the sums of the calls' allowances and of their steps
---   Latest, Modest       the latest call's status, if there is a call; no call made more steps than allowed
---   Promised             what is owed of the report after some calls
---   Kept                 a report keeps that promise, whatever program, unit, tapes and calls led to the run
---   HistoriesMeanSources     finishing keeps it always
---   HistoriesExist       any allowances are those of some history, so that the promise is no empty talk
+--   code_of                the published code of a program, linearised
+--   total, advances        the sum of some allowances, and the run after advances with them
+--   finishing              what is told of a run of some code
+--   RunsMeanSources        any advances, then finishing, tell what the program means
+--   narrowed               every number that had to be narrowed on the way to an outcome
+--   NarrowsInside          all of those under one unit lie in its range and in another's
+--   UnitsAgree             then the other unit gives the same
+--   Call                   an advance as its caller sees it: the allowance, and the steps and status that it gave
+--   Gave                   a call led from one run to another, and gave what it has
+--   Reached                some calls, latest first, led from the start to a run
+--   allowed, made          the sums of the calls' allowances and of their steps
+--   Latest, Modest         the latest call's status, if there is a call; no call made more steps than allowed
+--   Promised               what is owed of the report after some calls
+--   Kept                   a report keeps that promise, whatever program, unit, tapes and calls led to the run
+--   HistoriesMeanSources   finishing keeps it always
+--   HistoriesExist         any allowances are those of some history, so that the promise is no empty talk
 use Rattle.std.specs.Prelude.{◌≡◌, ℕ, ◌+◌, ◌≤◌, min, List, [], ◌∷◌, map, ℤ}
 use Rattle.std.specs.List.{AllByRecursion as All}
 use Rattle.syntax.specs.Tokens.{Name}

@@ -1,9 +1,9 @@
 -- Sources and the programs that they spell.
---   tokens_of      the tokens of a source; none if it is refused
---   program_of      a parse tree with the places of a source's tokens
---   Spells         a source has the tokens of a parse tree within both depths, and this is its program
---   OneProgram     a source spells one program
---   Shallow        a source's program has parentheses at most 32 deep
+--   tokens_of    the tokens of a source; none if it is refused
+--   program_of   a parse tree with the places of a source's tokens
+--   Spells       a source has the tokens of a parse tree within both depths, and this is its program
+--   OneProgram   a source spells one program
+--   Shallow      a source's program has parentheses at most 32 deep
 use Rattle.std.specs.Prelude.{◌≡◌, ℕ, ◌≤◌, List, []}
 use Rattle.syntax.specs.Tokens.{Name, Token, kinds}
 use Rattle.syntax.specs.Trees.{Program}

@@ -1,9 +1,9 @@
 -- The cells of declared names.
 --   Entries      names, each with the place where it stands, in the order of the source
---   name_at       the name with this index
+--   name_at      the name with this index
 --   place_at     its place
 --   cell_from    which entry is the first with a name, counted from a number on
---   cell_of       which entry is the first with a name, counted from 1
+--   cell_of      which entry is the first with a name, counted from 1
 --   Cell         the c-th entry has the name, and none before it has
 --   Undeclared   no entry has the name
 --   Looked       what a look-up answers

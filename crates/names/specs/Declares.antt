@@ -2,8 +2,8 @@
 --   Apart         the first n names are different from one another
 --   Declaration   at most 64 names, each declared once; so the names have the cells 1, 2, … as declared
 --   Repeat        the first name that equals an earlier one stands at this place
---   number_of      the number of a refusal
---   place_of       the place of a refusal
+--   number_of     the number of a refusal
+--   place_of      the place of a refusal
 --   Refuses       what a refusal of a declaration says
 use Rattle.std.specs.Prelude.{◌≡◌, ℕ, ◌+◌, ◌<◌, ◌≤◌, List, length, Some, ◌≢◌}
 use Rattle.names.specs.declared.refusal.Refusal.{Refusal}

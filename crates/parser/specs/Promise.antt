@@ -1,7 +1,7 @@
 -- Is every beginning of the tokens a beginning of a program within the depths 32 and 32, and the whole such a program?
---   Refused    the case of a no, with its number and place; or there is no memory
+--   Refused     the case of a no, with its number and place; or there is no memory
 --   number_of   a refusal's number
---   Answers    yes, or that no, whatever source the names stand in
+--   Answers     yes, or that no, whatever source the names stand in
 use Rattle.std.specs.Prelude.{ℕ, List, Result, MatchResult}
 use Rattle.syntax.specs.declared.token.Token as coded
 use Rattle.syntax.specs.Tokens.{tokens_of}

@@ -1,6 +1,6 @@
 -- What each reader of statements does to what is expected. Every factor has 32 parentheses to spare.
 --   Less              a token is read
---   end_of, closed     the token behind a list of statements, and what is expected after it
+--   end_of, closed    the token behind a list of statements, and what is expected after it
 --   TakesCondition    a condition in its parentheses
 --   TakesStatement    a statement with so many levels to spare below it
 --   TakesKeyword      one behind its first token, which is no name

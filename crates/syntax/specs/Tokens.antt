@@ -2,7 +2,7 @@
 --   Name       a name: its bytes
 --   Kind       what a token is; a name with its bytes, a number with its value
 --   Token      a kind and the place where it begins
---   kind_of     the kind of a token of the code, its bytes read from the source
+--   kind_of    the kind of a token of the code, its bytes read from the source
 --   token_of   a token of the code as one of these
 --   kinds      the kinds of some tokens
 use Rattle.std.specs.Prelude.{ℕ, List, [], ◌∷◌, take, drop}

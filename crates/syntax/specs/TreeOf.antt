@@ -1,9 +1,9 @@
 -- The syntax tree that the code builds, as a tree over names. The boxes are left out, and names are read from the source.
---   name_of                               the bytes of a name
---   factor_of, term_of, expression_of    the three levels of an expression
+--   name_of                             the bytes of a name
+--   factor_of, term_of, expression_of   the three levels of an expression
 --   condition_of, statement_of, statements_of
---   declared_of                          the names of a declaration
---   tree_of                               a whole program
+--   declared_of                         the names of a declaration
+--   tree_of                             a whole program
 use Rattle.std.specs.Prelude.{ℕ, List, [], ◌∷◌, take, drop, vec_items}
 use Rattle.syntax.specs.Tokens.{Name}
 use Rattle.syntax.specs.Trees as tree

@@ -1,5 +1,5 @@
 -- Texts of lines, one number to a line.
---   lines_of      the text of a list of numbers
+--   lines_of     the text of a list of numbers
 --   readings     the numbers of the first n lines
 --   numbers_in   the numbers of all whole lines
 --   Words        numbers of 32 bits, all of them

@@ -1,7 +1,7 @@
 -- What translating a program comes to.
---   code_of            a program's code
---   ProgramRefused    the first of the questions 6 to 10 that is answered no
---   ProgramOutcome    the names are as they should be and the code is stored; or it is refused, and both buffers stay as they were
+--   code_of          a program's code
+--   ProgramRefused   the first of the questions 6 to 10 that is answered no
+--   ProgramOutcome   the names are as they should be and the code is stored; or it is refused, and both buffers stay as they were
 use Rattle.std.specs.Prelude.{◌≡◌, ℕ, List, Ok, Err, Result}
 use Rattle.syntax.specs.Tokens.{Name}
 use Rattle.syntax.specs.Trees.{Program}

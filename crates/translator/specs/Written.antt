@@ -1,5 +1,5 @@
 -- What translating leaves in the two buffers, and the last two questions.
---   words_of    the words of some code
+--   words_of   the words of some code
 --   Fits       every instruction of some code has a word
 --   Written    a buffer holds these words, and behind them what it held before
 --   Stored     code within 4,096 instructions and both buffers: its length is answered, and the buffers hold its words and places

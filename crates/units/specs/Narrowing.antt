@@ -1,10 +1,10 @@
 -- Ranges of numbers, and how a unit brings an exact number into one.
 --   minimum, maximum   the ends of the numbers of some bits, two's complement
---   Within        a result, if there is one, lies in a range
---   strict        the number itself inside the range, nothing outside it
---   clamped       the nearer end outside the range
---   wrapping      what is left of the number in 32 bits
---   Wraps         wrapping alters a number by a multiple of 2^32 only
+--   Within             a result, if there is one, lies in a range
+--   strict             the number itself inside the range, nothing outside it
+--   clamped            the nearer end outside the range
+--   wrapping           what is left of the number in 32 bits
+--   Wraps              wrapping alters a number by a multiple of 2^32 only
 use Rattle.std.specs.Prelude.{◌≡◌, ℕ, ◌-◌, ◌*◌, ◌^◌, cond, ◌⊎◌, ℤ, pos, negsuc, ◌+ℤ◌, ◌≤ℤ◌, Some, None, Option, int_lt}
 use Rattle.std.specs.Int.{int_wrap, w32}
 

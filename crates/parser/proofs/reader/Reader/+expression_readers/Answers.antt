@@ -11,13 +11,13 @@ use Rattle.parser.proofs.Feeds.{gone, onward, fewer_behind, peeked_fewer, taken,
 use Rattle.parser.proofs.Spelled.{refitted, products_end, sums_end, variable_spelled, literal_spelled, paren_spelled, term_spelled, product_spelled, sum_spelled, expression_spelled}
 use Rattle.parser.proofs.reader.Reader.+expression_readers.Goals as goal
 
-pub expression-returns-in-err-first : goal.expression-returns-in-err-first
-expression-returns-in-err-first t c = record {
+pub expression-returns-in_err-first : goal.expression-returns-in_err-first
+expression-returns-in_err-first t c = record {
   reads = λ source x s.
-      gone _ c.from-residual.result _ c.from-residual.ensures.1
+      gone _ c.from_residual.result _ c.from_residual.ensures.1
       (sign_read _ _ c.additive-sign.result (c.additive-sign.ensures.read source) c.args.parens x s)
-      (c.in-err-first.ensures.reads source x s);
-  fewer = IfOk-from_err _ _ c.from-residual.ensures.0;
+      (c.in_err-first.ensures.reads source x s);
+  fewer = IfOk-from_err _ _ c.from_residual.ensures.0;
 }
 
 pub expression-returns : goal.expression-returns
@@ -47,30 +47,30 @@ factor-returns-in-Number t c = record {
   fewer = omega (arith, ap length c.in-Some.ensures.read);
 }
 
-pub factor-returns-in-ok-parens : goal.factor-returns-in-ok-parens
-factor-returns-in-ok-parens t c = record {
+pub factor-returns-in_ok-parens-in-LeftParen : goal.factor-returns-in_ok-parens-in-LeftParen
+factor-returns-in_ok-parens-in-LeftParen t c = record {
   reads = λ source x s.
       let paren = read_as source c.in-Some.ensures.read (c.in-Mark.is ∙ ap Mark c.in-LeftParen.is) in
       onward _ _ _ c.parenthesized.result
-      (paren_read paren c.in-ok-parens.ensures x s)
-      (λ f h. refitted c.args.parens c.in-ok-parens.parens paren c.in-ok-parens.ensures (h c.in-Some.token.place))
+      (paren_read paren c.in_ok-parens-in-LeftParen.ensures x s)
+      (λ f h. refitted c.args.parens c.in_ok-parens-in-LeftParen.parens paren c.in_ok-parens-in-LeftParen.ensures (h c.in-Some.token.place))
       (c.parenthesized.ensures.reads source (products c.args.parens x ∷ s));
   fewer = fewer_behind _ _ _ c.parenthesized.result (omega (arith, ap length c.in-Some.ensures.read)) c.parenthesized.ensures.fewer;
 }
 
-pub parenthesized-returns-in-err-inner : goal.parenthesized-returns-in-err-inner
-parenthesized-returns-in-err-inner t c = record {
-  reads = λ source s. gone _ c.from-residual.result _ c.from-residual.ensures.1 refl (c.in-err-inner.ensures.reads source at_paren s);
-  fewer = IfOk-from_err _ _ c.from-residual.ensures.0;
+pub parenthesized-returns-in_err-inner : goal.parenthesized-returns-in_err-inner
+parenthesized-returns-in_err-inner t c = record {
+  reads = λ source s. gone _ c.from_residual.result _ c.from_residual.ensures.1 refl (c.in_err-inner.ensures.reads source at_paren s);
+  fewer = IfOk-from_err _ _ c.from_residual.ensures.0;
 }
 
-pub parenthesized-returns-in-err-expect : goal.parenthesized-returns-in-err-expect
-parenthesized-returns-in-err-expect t c = record {
+pub parenthesized-returns-in_err-expect : goal.parenthesized-returns-in_err-expect
+parenthesized-returns-in_err-expect t c = record {
   reads = λ source s.
-      gone _ c.from-residual-in-err-expect.result _ c.from-residual-in-err-expect.ensures.1
-      ((c.in-ok-inner.ensures.reads source at_paren s).0 ∙ at_paren_lem (ahead source c.expression.new.self) s)
-      (c.in-err-expect.ensures.reads source s);
-  fewer = IfOk-from_err _ _ c.from-residual-in-err-expect.ensures.0;
+      gone _ c.from_residual-in_err-expect.result _ c.from_residual-in_err-expect.ensures.1
+      ((c.in_ok-inner.ensures.reads source at_paren s).0 ∙ at_paren_lem (ahead source c.expression.new.self) s)
+      (c.in_err-expect.ensures.reads source s);
+  fewer = IfOk-from_err _ _ c.from_residual-in_err-expect.ensures.0;
 }
 
 pub parenthesized-returns : goal.parenthesized-returns
@@ -78,25 +78,25 @@ parenthesized-returns t c = record {
   reads = λ source s.
       let inner = c.in_ok-inner.ensures.reads source at_paren s in
       let close = c.in_ok-expect.ensures.reads source s in
-      (inner.0 ∙ at_paren_lem (ahead source c.expression.new.self) s ∙ close.0, λ p. paren_spelled c.args.parens p (ap (expression_of source) c.in_ok-inner-2.ensures.made) inner.1 close.1);
+      (inner.0 ∙ at_paren_lem (ahead source c.expression.new.self) s ∙ close.0, λ p. paren_spelled c.args.parens p (ap (expression_of source) c.in_ok-inner-2.ensures.ok) inner.1 close.1);
   fewer = omega (arith, c.in_ok-inner.ensures.fewer, c.in_ok-expect.ensures.fewer);
 }
 
-pub products-returns-in-default : goal.products-returns-in-default
-products-returns-in-default t c = record {
+pub products-returns-in_default : goal.products-returns-in_default
+products-returns-in_default t c = record {
   reads = λ source x s.
-      let none = c.in-default.ensures.read source in
+      let none = c.in_default.ensures.read source in
       (no_product _ _ none c.args.parens x s, products_end c.args.parens _ none.0);
-  fewer = c.in-default.ensures.fewer;
+  fewer = c.in_default.ensures.fewer;
 }
 
-pub products-returns-in-err-right : goal.products-returns-in-err-right
-products-returns-in-err-right t c = record {
+pub products-returns-in_err-right : goal.products-returns-in_err-right
+products-returns-in_err-right t c = record {
   reads = λ source x s.
-      gone _ c.from-residual.result _ c.from-residual.ensures.1
+      gone _ c.from_residual.result _ c.from_residual.ensures.1
       (product_read (c.in-Some.ensures.read source) c.args.parens x s)
-      (c.in-err-right.ensures.reads source x s);
-  fewer = IfOk-from_err _ _ c.from-residual.ensures.0;
+      (c.in_err-right.ensures.reads source x s);
+  fewer = IfOk-from_err _ _ c.from_residual.ensures.0;
 }
 
 pub products-returns : goal.products-returns
@@ -111,21 +111,21 @@ products-returns t c = record {
   fewer = fewer_behind _ _ _ c.products.result (omega (arith, c.in-Some.ensures.fewer, c.in_ok-right.ensures.fewer)) c.products.ensures.fewer;
 }
 
-pub sums-returns-in-default : goal.sums-returns-in-default
-sums-returns-in-default t c = record {
+pub sums-returns-in_default : goal.sums-returns-in_default
+sums-returns-in_default t c = record {
   reads = λ source x s.
-      let none = c.in-default.ensures.read source in
+      let none = c.in_default.ensures.read source in
       (no_sum _ _ none c.args.parens x s, sums_end c.args.parens _ none.0);
-  fewer = c.in-default.ensures.fewer;
+  fewer = c.in_default.ensures.fewer;
 }
 
-pub sums-returns-in-err-right : goal.sums-returns-in-err-right
-sums-returns-in-err-right t c = record {
+pub sums-returns-in_err-right : goal.sums-returns-in_err-right
+sums-returns-in_err-right t c = record {
   reads = λ source x s.
-      gone _ c.from-residual.result _ c.from-residual.ensures.1
+      gone _ c.from_residual.result _ c.from_residual.ensures.1
       (sum_read (c.in-Some.ensures.read source) c.args.parens x s)
-      (c.in-err-right.ensures.reads source x s);
-  fewer = IfOk-from_err _ _ c.from-residual.ensures.0;
+      (c.in_err-right.ensures.reads source x s);
+  fewer = IfOk-from_err _ _ c.from_residual.ensures.0;
 }
 
 pub sums-returns : goal.sums-returns
@@ -140,10 +140,10 @@ sums-returns t c = record {
   fewer = fewer_behind _ _ _ c.sums.result (omega (arith, c.in-Some.ensures.fewer, c.in_ok-right.ensures.fewer)) c.sums.ensures.fewer;
 }
 
-pub term-returns-in-err-first : goal.term-returns-in-err-first
-term-returns-in-err-first t c = record {
-  reads = λ source x s. gone _ c.from-residual.result _ c.from-residual.ensures.1 refl (c.in-err-first.ensures.reads source x s);
-  fewer = IfOk-from_err _ _ c.from-residual.ensures.0;
+pub term-returns-in_err-first : goal.term-returns-in_err-first
+term-returns-in_err-first t c = record {
+  reads = λ source x s. gone _ c.from_residual.result _ c.from_residual.ensures.1 refl (c.in_err-first.ensures.reads source x s);
+  fewer = IfOk-from_err _ _ c.from_residual.ensures.0;
 }
 
 pub term-returns : goal.term-returns

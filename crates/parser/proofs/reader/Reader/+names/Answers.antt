@@ -8,10 +8,10 @@ use Rattle.parser.proofs.Fronts.{same_length}
 use Rattle.parser.proofs.Feeds.{gone, onward, fewer_behind, less_behind, taken, at_paren_lem, at_semicolon_lem, if_read, while_read, block_read, else_read, no_else, end_read, no_end, keyword_is, no_int, no_comma}
 use Rattle.parser.proofs.reader.Reader.+names.Goals as goal
 
-pub returns-in-err-name : goal.returns-in-err-name
-returns-in-err-name t c = record {
-  takes = λ source s. gone _ c.from-residual.result _ c.from-residual.ensures.1 (taken (c.in-Some.ensures.read source) (names ∷ s) (identifier ∷ (names ∷ s)) refl) (c.in-err-name.ensures.reads source (names ∷ s));
-  fewer = IfOk-from_err _ _ c.from-residual.ensures.0;
+pub returns-in_err-name : goal.returns-in_err-name
+returns-in_err-name t c = record {
+  takes = λ source s. gone _ c.from_residual.result _ c.from_residual.ensures.1 (taken (c.in-Some.ensures.read source) (names ∷ s) (identifier ∷ (names ∷ s)) refl) (c.in_err-name.ensures.reads source (names ∷ s));
+  fewer = IfOk-from_err _ _ c.from_residual.ensures.0;
 }
 
 pub returns-in-Some : goal.returns-in-Some
@@ -20,10 +20,10 @@ returns-in-Some t c = record {
   fewer = fewer_behind _ _ _ c.names.result (omega (arith, c.accept.ensures.fewer, c.in_ok-name.ensures.fewer)) c.names.ensures.fewer;
 }
 
-pub returns-in-err-expect : goal.returns-in-err-expect
-returns-in-err-expect t c = record {
-  takes = λ source s. gone _ c.from-residual-in-err-expect.result _ c.from-residual-in-err-expect.ensures.1 (no_comma (ahead source c.args.self.now) (ahead source c.accept.new.self) (c.in-default.ensures.read source) s) (c.in-err-expect.ensures.reads source s);
-  fewer = IfOk-from_err _ _ c.from-residual-in-err-expect.ensures.0;
+pub returns-in_err-expect : goal.returns-in_err-expect
+returns-in_err-expect t c = record {
+  takes = λ source s. gone _ c.from_residual-in_err-expect.result _ c.from_residual-in_err-expect.ensures.1 (no_comma (ahead source c.args.self.now) (ahead source c.accept.new.self) (c.in_default.ensures.read source) s) (c.in_err-expect.ensures.reads source s);
+  fewer = IfOk-from_err _ _ c.from_residual-in_err-expect.ensures.0;
 }
 
 pub returns : goal.returns

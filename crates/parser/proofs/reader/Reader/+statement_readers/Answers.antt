@@ -38,26 +38,26 @@ keyword-returns-in-Printf t c = record {
   fewer = c.print.ensures.fewer;
 }
 
-pub keyword-returns-in-ok-depth : goal.keyword-returns-in-ok-depth
-keyword-returns-in-ok-depth t c = record {
+pub keyword-returns-in_ok-depth-in-If : goal.keyword-returns-in_ok-depth-in-If
+keyword-returns-in_ok-depth-in-If t c = record {
   takes = λ source es x s.
-      onward _ _ _ c.if-statement.result
+      onward _ _ _ c.if_statement.result
       (keyword_is c.args.place c.args.depth _ es x s c.in-If.is ∙ if_read _ c.args.place c.in-ok-depth.ensures es x s)
-      (λ x h. tt) (c.if-statement.ensures.takes source es x s);
-  fewer = c.if-statement.ensures.fewer;
+      (λ x h. tt) (c.if_statement.ensures.takes source es x s);
+  fewer = c.if_statement.ensures.fewer;
 }
 
-pub keyword-returns-in-ok-depth-2 : goal.keyword-returns-in-ok-depth-2
-keyword-returns-in-ok-depth-2 t c = record {
+pub keyword-returns-in_ok-depth-in-While : goal.keyword-returns-in_ok-depth-in-While
+keyword-returns-in_ok-depth-in-While t c = record {
   takes = λ source es x s.
-      onward _ _ _ c.while-statement.result
+      onward _ _ _ c.while_statement.result
       (keyword_is c.args.place c.args.depth _ es x s c.in-While.is ∙ while_read _ c.args.place c.in-ok-depth-2.ensures es x s)
-      (λ x h. tt) (c.while-statement.ensures.takes source es x s);
-  fewer = c.while-statement.ensures.fewer;
+      (λ x h. tt) (c.while_statement.ensures.takes source es x s);
+  fewer = c.while_statement.ensures.fewer;
 }
 
-pub keyword-returns-in-ok-depth-3 : goal.keyword-returns-in-ok-depth-3
-keyword-returns-in-ok-depth-3 t c = record {
+pub keyword-returns-in_ok-depth-in-LeftBrace : goal.keyword-returns-in_ok-depth-in-LeftBrace
+keyword-returns-in_ok-depth-in-LeftBrace t c = record {
   takes = λ source es x s.
       onward _ _ _ c.block.result
       (keyword_is c.args.place c.args.depth _ es x s c.in-LeftBrace.is ∙ block_read _ c.args.place c.in-ok-depth-3.ensures es x s)
@@ -65,68 +65,68 @@ keyword-returns-in-ok-depth-3 t c = record {
   fewer = c.block.ensures.fewer;
 }
 
-pub if-statement-returns-in-err-condition : goal.if-statement-returns-in-err-condition
-if-statement-returns-in-err-condition t c = record {
-  takes = λ source es x s. gone _ c.from-residual.result _ c.from-residual.ensures.1 (refl) (c.in-err-condition.ensures.takes source (statement 32 c.args.depth (c.args.depth ∷ es) x ∷ s));
-  fewer = IfOk-from_err _ _ c.from-residual.ensures.0;
+pub if_statement-returns-in_err-condition : goal.if_statement-returns-in_err-condition
+if_statement-returns-in_err-condition t c = record {
+  takes = λ source es x s. gone _ c.from_residual.result _ c.from_residual.ensures.1 (refl) (c.in_err-condition.ensures.takes source (statement 32 c.args.depth (c.args.depth ∷ es) x ∷ s));
+  fewer = IfOk-from_err _ _ c.from_residual.ensures.0;
 }
 
-pub if-statement-returns-in-err-statement : goal.if-statement-returns-in-err-statement
-if-statement-returns-in-err-statement t c = record {
-  takes = λ source es x s. gone _ c.from-residual-in-err-statement.result _ c.from-residual-in-err-statement.ensures.1 (c.in-ok-condition.ensures.takes source (statement 32 c.args.depth (c.args.depth ∷ es) x ∷ s)).0 (c.in-err-statement.ensures.takes source (c.args.depth ∷ es) x s);
-  fewer = IfOk-from_err _ _ c.from-residual-in-err-statement.ensures.0;
+pub if_statement-returns-in_err-statement : goal.if_statement-returns-in_err-statement
+if_statement-returns-in_err-statement t c = record {
+  takes = λ source es x s. gone _ c.from_residual-in_err-statement.result _ c.from_residual-in_err-statement.ensures.1 (c.in_ok-condition.ensures.takes source (statement 32 c.args.depth (c.args.depth ∷ es) x ∷ s)).0 (c.in_err-statement.ensures.takes source (c.args.depth ∷ es) x s);
+  fewer = IfOk-from_err _ _ c.from_residual-in_err-statement.ensures.0;
 }
 
-pub if-statement-returns-in-default : goal.if-statement-returns-in-default
-if-statement-returns-in-default t c = record {
-  takes = λ source es x s. ((c.in-ok-condition.ensures.takes source (statement 32 c.args.depth (c.args.depth ∷ es) x ∷ s)).0 ∙ (c.in-ok-statement.ensures.takes source (c.args.depth ∷ es) x s).0 ∙ no_else (ahead source c.statement.new.self) (ahead source c.accept.new.self) (c.in-default.ensures.read source) c.args.depth es x s, tt);
-  fewer = omega (arith, c.in-ok-condition.ensures.fewer, c.in-ok-statement.ensures.less, c.accept.ensures.fewer);
+pub if_statement-returns-in_default : goal.if_statement-returns-in_default
+if_statement-returns-in_default t c = record {
+  takes = λ source es x s. ((c.in_ok-condition.ensures.takes source (statement 32 c.args.depth (c.args.depth ∷ es) x ∷ s)).0 ∙ (c.in_ok-statement.ensures.takes source (c.args.depth ∷ es) x s).0 ∙ no_else (ahead source c.statement.new.self) (ahead source c.accept.new.self) (c.in_default.ensures.read source) c.args.depth es x s, tt);
+  fewer = omega (arith, c.in_ok-condition.ensures.fewer, c.in_ok-statement.ensures.less, c.accept.ensures.fewer);
 }
 
-pub if-statement-returns : goal.if-statement-returns
-if-statement-returns t c = record {
+pub if_statement-returns : goal.if_statement-returns
+if_statement-returns t c = record {
   takes = λ source es x s.
       onward _ _ _ c.statement-2.result
-      ((c.in-ok-condition.ensures.takes source (statement 32 c.args.depth (c.args.depth ∷ es) x ∷ s)).0 ∙ (c.in-ok-statement.ensures.takes source (c.args.depth ∷ es) x s).0 ∙ else_read (c.in-Some.ensures.read source) c.args.depth es x s)
+      ((c.in_ok-condition.ensures.takes source (statement 32 c.args.depth (c.args.depth ∷ es) x ∷ s)).0 ∙ (c.in_ok-statement.ensures.takes source (c.args.depth ∷ es) x s).0 ∙ else_read (c.in-Some.ensures.read source) c.args.depth es x s)
       (λ x h. tt) (c.statement-2.ensures.takes source es x s);
-  fewer = fewer_of_less _ _ _ c.statement-2.result (omega (arith, c.in-ok-condition.ensures.fewer, c.in-ok-statement.ensures.less, c.accept.ensures.fewer)) c.statement-2.ensures.less;
+  fewer = fewer_of_less _ _ _ c.statement-2.result (omega (arith, c.in_ok-condition.ensures.fewer, c.in_ok-statement.ensures.less, c.accept.ensures.fewer)) c.statement-2.ensures.less;
 }
 
-pub while-statement-returns-in-err-condition : goal.while-statement-returns-in-err-condition
-while-statement-returns-in-err-condition t c = record {
-  takes = λ source es x s. gone _ c.from-residual.result _ c.from-residual.ensures.1 (refl) (c.in-err-condition.ensures.takes source (statement 32 c.args.depth es x ∷ s));
-  fewer = IfOk-from_err _ _ c.from-residual.ensures.0;
+pub while_statement-returns-in_err-condition : goal.while_statement-returns-in_err-condition
+while_statement-returns-in_err-condition t c = record {
+  takes = λ source es x s. gone _ c.from_residual.result _ c.from_residual.ensures.1 (refl) (c.in_err-condition.ensures.takes source (statement 32 c.args.depth es x ∷ s));
+  fewer = IfOk-from_err _ _ c.from_residual.ensures.0;
 }
 
-pub while-statement-returns : goal.while-statement-returns
-while-statement-returns t c = record {
-  takes = λ source es x s. onward _ _ _ c.statement.result (c.in-ok-condition.ensures.takes source (statement 32 c.args.depth es x ∷ s)).0 (λ x h. tt) (c.statement.ensures.takes source es x s);
-  fewer = fewer_of_less _ _ _ c.statement.result c.in-ok-condition.ensures.fewer c.statement.ensures.less;
+pub while_statement-returns : goal.while_statement-returns
+while_statement-returns t c = record {
+  takes = λ source es x s. onward _ _ _ c.statement.result (c.in_ok-condition.ensures.takes source (statement 32 c.args.depth es x ∷ s)).0 (λ x h. tt) (c.statement.ensures.takes source es x s);
+  fewer = fewer_of_less _ _ _ c.statement.result c.in_ok-condition.ensures.fewer c.statement.ensures.less;
 }
 
-pub block-returns-in-err-statement : goal.block-returns-in-err-statement
-block-returns-in-err-statement t c = record {
-  takes = λ source s. gone _ c.from-residual.result _ c.from-residual.ensures.1 (refl) (c.in-err-statement.ensures.takes source [] (braces c.args.depth) s);
-  fewer = IfOk-from_err _ _ c.from-residual.ensures.0;
+pub block-returns-in_err-statement : goal.block-returns-in_err-statement
+block-returns-in_err-statement t c = record {
+  takes = λ source s. gone _ c.from_residual.result _ c.from_residual.ensures.1 (refl) (c.in_err-statement.ensures.takes source [] (braces c.args.depth) s);
+  fewer = IfOk-from_err _ _ c.from_residual.ensures.0;
 }
 
 pub block-returns : goal.block-returns
 block-returns t c = record {
-  takes = λ source s. onward _ _ _ c.statements.result (c.in-ok-statement.ensures.takes source [] (braces c.args.depth) s).0 (λ x h. tt) (c.statements.ensures.takes source (braces c.args.depth) s refl refl);
-  fewer = fewer_behind _ _ _ c.statements.result (omega (arith, c.in-ok-statement.ensures.less)) c.statements.ensures.fewer;
+  takes = λ source s. onward _ _ _ c.statements.result (c.in_ok-statement.ensures.takes source [] (braces c.args.depth) s).0 (λ x h. tt) (c.statements.ensures.takes source (braces c.args.depth) s refl refl);
+  fewer = fewer_behind _ _ _ c.statements.result (omega (arith, c.in_ok-statement.ensures.less)) c.statements.ensures.fewer;
 }
 
 pub statements-returns-in-Some : goal.statements-returns-in-Some
 statements-returns-in-Some t c = record { takes = λ source x s e l. (end_read x e (c.in-Some.ensures.read source) s, tt); fewer = c.accept.ensures.fewer }
 
-pub statements-returns-in-err-statement : goal.statements-returns-in-err-statement
-statements-returns-in-err-statement t c = record {
-  takes = λ source x s e l. gone _ c.from-residual.result _ c.from-residual.ensures.1 (no_end x (ahead source c.args.self.now) (ahead source c.accept.new.self) e l (c.in-default.ensures.read source) s) (c.in-err-statement.ensures.takes source [] x s);
-  fewer = IfOk-from_err _ _ c.from-residual.ensures.0;
+pub statements-returns-in_err-statement : goal.statements-returns-in_err-statement
+statements-returns-in_err-statement t c = record {
+  takes = λ source x s e l. gone _ c.from_residual.result _ c.from_residual.ensures.1 (no_end x (ahead source c.args.self.now) (ahead source c.accept.new.self) e l (c.in_default.ensures.read source) s) (c.in_err-statement.ensures.takes source [] x s);
+  fewer = IfOk-from_err _ _ c.from_residual.ensures.0;
 }
 
 pub statements-returns : goal.statements-returns
 statements-returns t c = record {
-  takes = λ source x s e l. onward _ _ _ c.statements.result (no_end x (ahead source c.args.self.now) (ahead source c.accept.new.self) e l (c.in-default.ensures.read source) s ∙ (c.in-ok-statement.ensures.takes source [] x s).0) (λ x h. tt) (c.statements.ensures.takes source x s e l);
-  fewer = fewer_behind _ _ _ c.statements.result (omega (arith, c.accept.ensures.fewer, c.in-ok-statement.ensures.less)) c.statements.ensures.fewer;
+  takes = λ source x s e l. onward _ _ _ c.statements.result (no_end x (ahead source c.args.self.now) (ahead source c.accept.new.self) e l (c.in_default.ensures.read source) s ∙ (c.in_ok-statement.ensures.takes source [] x s).0) (λ x h. tt) (c.statements.ensures.takes source x s e l);
+  fewer = fewer_behind _ _ _ c.statements.result (omega (arith, c.accept.ensures.fewer, c.in_ok-statement.ensures.less)) c.statements.ensures.fewer;
 }

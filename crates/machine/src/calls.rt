@@ -23,7 +23,7 @@ pub struct Advanced {
 impl<'a, U: Arithmetic, I: InputTape, O: OutputTape> Run<'a, U, I, O> {
     // A new run, which will make no more steps than the lid.
     pub fn start(image: &'a Image, unit: U, input: I, output: O, lid: u64) -> Run<'a, U, I, O>
-        ensures new { state_of waiting means result ≡ start (tapes_of (waiting input) (means output)) }
+        ensures new { state_of I.waiting O.means result ≡ start (tapes_of (I.waiting input) (O.means output)) }
         ensures image { code_of result ≡ image.now.code.items }
         ensures lid { result.lid ≡ lid }
         ensures output { result.memory.output ≡ output }
@@ -49,12 +49,12 @@ impl<'a, U: Arithmetic, I: InputTape, O: OutputTape> Run<'a, U, I, O> {
 
     // Makes up to an allowance of steps. One that has ended or faulted, or is at its lid, makes none.
     pub fn advance(&mut self, allowance: u32) -> Advanced
-        ensures moved { state_of waiting means self.new ≡ advance (unit_of least greatest narrowed) (code_of self.old) self.old.lid allowance (state_of waiting means self.old) }
+        ensures moved { state_of I.waiting O.means self.new ≡ advance (unit_of U.least U.greatest U.narrowed) (code_of self.old) self.old.lid allowance (state_of I.waiting O.means self.old) }
         ensures image { self.new.image ≡ self.old.image }
         ensures lid { self.new.lid ≡ self.old.lid }
         ensures steps { self.new.core.steps ≡ self.old.core.steps + result.steps }
-        ensures status { status_number result.status ≡ status self.new.lid (code_of self.new) (state_of waiting means self.new) }
-        ensures rests { KeptAtRest (means self.old.memory.output) (means self.new.memory.output) }
+        ensures status { status_number result.status ≡ status self.new.lid (code_of self.new) (state_of I.waiting O.means self.new) }
+        ensures rests { KeptAtRest (O.means self.old.memory.output) (O.means self.new.memory.output) }
     {
         let mut core = self.core;
         if core.fault.is_some() {

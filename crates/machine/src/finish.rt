@@ -16,8 +16,8 @@ impl<'a, U: Arithmetic, I: InputTape, O: OutputTape> Run<'a, U, I, O> {
     // Settles the output tape, and gives back all that the run had and how it stands. A fault's address becomes a place by
     // any place list.
     pub fn finish(self) -> Finished<U, I, O>
-        ensures report { (places : List ℕ) → report_of waiting means places result ≡ finish self.entry.lid (code_of self.entry) places (state_of waiting means self.entry) }
-        ensures settled { means result.output ≡ settled (means self.entry.memory.output) }
+        ensures report { (places : List ℕ) → report_of I.waiting O.means places result ≡ finish self.entry.lid (code_of self.entry) places (state_of I.waiting O.means self.entry) }
+        ensures settled { O.means result.output ≡ settled (O.means self.entry.memory.output) }
         ensures unit { result.unit ≡ self.entry.memory.unit }
         ensures input { result.input ≡ self.entry.memory.input }
     {

@@ -30,7 +30,7 @@ impl Core {
         z: i32,
     ) -> Result<(), Cause>
         requires placed { self.old.counter ≤ 4096 }
-        ensures { Acted (unit_of least greatest narrowed) waiting means (Literal z) self.old memory.old result self.new memory.new }
+        ensures { Acted (unit_of U.least U.greatest U.narrowed) I.waiting O.means (Literal z) self.old memory.old result self.new memory.new }
     {
         if self.depth >= 68 {
             return Err(Cause::StackFull);
@@ -49,7 +49,7 @@ impl Core {
     ) -> Result<(), Cause>
         requires placed { self.old.counter ≤ 4096 }
         requires cell { (1 ≤ n) × (n ≤ 64) }
-        ensures { Acted (unit_of least greatest narrowed) waiting means (Load n) self.old memory.old result self.new memory.new }
+        ensures { Acted (unit_of U.least U.greatest U.narrowed) I.waiting O.means (Load n) self.old memory.old result self.new memory.new }
     {
         if self.depth >= 68 {
             return Err(Cause::StackFull);
@@ -68,7 +68,7 @@ impl Core {
     ) -> Result<(), Cause>
         requires placed { self.old.counter ≤ 4096 }
         requires cell { (1 ≤ n) × (n ≤ 64) }
-        ensures { Acted (unit_of least greatest narrowed) waiting means (Store n) self.old memory.old result self.new memory.new }
+        ensures { Acted (unit_of U.least U.greatest U.narrowed) I.waiting O.means (Store n) self.old memory.old result self.new memory.new }
     {
         let v = self.pop(memory)?;
         memory.cells[n as usize - 1] = Some(v);
@@ -81,7 +81,7 @@ impl Core {
         memory: &mut Memory<U, I, O>,
     ) -> Result<(), Cause>
         requires placed { self.old.counter ≤ 4096 }
-        ensures { Acted (unit_of least greatest narrowed) waiting means Add self.old memory.old result self.new memory.new }
+        ensures { Acted (unit_of U.least U.greatest U.narrowed) I.waiting O.means Add self.old memory.old result self.new memory.new }
     {
         let (x, y) = self.operands(memory)?;
         self.replace_narrowed(memory, x + y)
@@ -92,7 +92,7 @@ impl Core {
         memory: &mut Memory<U, I, O>,
     ) -> Result<(), Cause>
         requires placed { self.old.counter ≤ 4096 }
-        ensures { Acted (unit_of least greatest narrowed) waiting means Subtract self.old memory.old result self.new memory.new }
+        ensures { Acted (unit_of U.least U.greatest U.narrowed) I.waiting O.means Subtract self.old memory.old result self.new memory.new }
     {
         let (x, y) = self.operands(memory)?;
         self.replace_narrowed(memory, x - y)
@@ -103,7 +103,7 @@ impl Core {
         memory: &mut Memory<U, I, O>,
     ) -> Result<(), Cause>
         requires placed { self.old.counter ≤ 4096 }
-        ensures { Acted (unit_of least greatest narrowed) waiting means Multiply self.old memory.old result self.new memory.new }
+        ensures { Acted (unit_of U.least U.greatest U.narrowed) I.waiting O.means Multiply self.old memory.old result self.new memory.new }
     {
         let (x, y) = self.operands(memory)?;
         self.replace_narrowed(memory, x * y)
@@ -114,7 +114,7 @@ impl Core {
         memory: &mut Memory<U, I, O>,
     ) -> Result<(), Cause>
         requires placed { self.old.counter ≤ 4096 }
-        ensures { Acted (unit_of least greatest narrowed) waiting means Divide self.old memory.old result self.new memory.new }
+        ensures { Acted (unit_of U.least U.greatest U.narrowed) I.waiting O.means Divide self.old memory.old result self.new memory.new }
     {
         let (x, y) = self.operands(memory)?;
         if y == 0 {
@@ -128,7 +128,7 @@ impl Core {
         memory: &mut Memory<U, I, O>,
     ) -> Result<(), Cause>
         requires placed { self.old.counter ≤ 4096 }
-        ensures { Acted (unit_of least greatest narrowed) waiting means Modulo self.old memory.old result self.new memory.new }
+        ensures { Acted (unit_of U.least U.greatest U.narrowed) I.waiting O.means Modulo self.old memory.old result self.new memory.new }
     {
         let (x, y) = self.operands(memory)?;
         if y == 0 {
@@ -142,7 +142,7 @@ impl Core {
         memory: &mut Memory<U, I, O>,
     ) -> Result<(), Cause>
         requires placed { self.old.counter ≤ 4096 }
-        ensures { Acted (unit_of least greatest narrowed) waiting means Less self.old memory.old result self.new memory.new }
+        ensures { Acted (unit_of U.least U.greatest U.narrowed) I.waiting O.means Less self.old memory.old result self.new memory.new }
     {
         let (x, y) = self.operands(memory)?;
         self.replace_by_answer(memory, x < y)
@@ -153,7 +153,7 @@ impl Core {
         memory: &mut Memory<U, I, O>,
     ) -> Result<(), Cause>
         requires placed { self.old.counter ≤ 4096 }
-        ensures { Acted (unit_of least greatest narrowed) waiting means Equal self.old memory.old result self.new memory.new }
+        ensures { Acted (unit_of U.least U.greatest U.narrowed) I.waiting O.means Equal self.old memory.old result self.new memory.new }
     {
         let (x, y) = self.operands(memory)?;
         self.replace_by_answer(memory, x == y)
@@ -164,7 +164,7 @@ impl Core {
         memory: &mut Memory<U, I, O>,
     ) -> Result<(), Cause>
         requires placed { self.old.counter ≤ 4096 }
-        ensures { Acted (unit_of least greatest narrowed) waiting means Unequal self.old memory.old result self.new memory.new }
+        ensures { Acted (unit_of U.least U.greatest U.narrowed) I.waiting O.means Unequal self.old memory.old result self.new memory.new }
     {
         let (x, y) = self.operands(memory)?;
         self.replace_by_answer(memory, x != y)
@@ -175,7 +175,7 @@ impl Core {
         memory: &mut Memory<U, I, O>,
     ) -> Result<(), Cause>
         requires placed { self.old.counter ≤ 4096 }
-        ensures { Acted (unit_of least greatest narrowed) waiting means Greater self.old memory.old result self.new memory.new }
+        ensures { Acted (unit_of U.least U.greatest U.narrowed) I.waiting O.means Greater self.old memory.old result self.new memory.new }
     {
         let (x, y) = self.operands(memory)?;
         self.replace_by_answer(memory, x > y)
@@ -186,7 +186,7 @@ impl Core {
         memory: &mut Memory<U, I, O>,
     ) -> Result<(), Cause>
         requires placed { self.old.counter ≤ 4096 }
-        ensures { Acted (unit_of least greatest narrowed) waiting means AtMost self.old memory.old result self.new memory.new }
+        ensures { Acted (unit_of U.least U.greatest U.narrowed) I.waiting O.means AtMost self.old memory.old result self.new memory.new }
     {
         let (x, y) = self.operands(memory)?;
         self.replace_by_answer(memory, x <= y)
@@ -197,7 +197,7 @@ impl Core {
         memory: &mut Memory<U, I, O>,
     ) -> Result<(), Cause>
         requires placed { self.old.counter ≤ 4096 }
-        ensures { Acted (unit_of least greatest narrowed) waiting means AtLeast self.old memory.old result self.new memory.new }
+        ensures { Acted (unit_of U.least U.greatest U.narrowed) I.waiting O.means AtLeast self.old memory.old result self.new memory.new }
     {
         let (x, y) = self.operands(memory)?;
         self.replace_by_answer(memory, x >= y)
@@ -209,7 +209,7 @@ impl Core {
         target: u16,
     ) -> Result<(), Cause>
         requires target { 1 ≤ target }
-        ensures { Acted (unit_of least greatest narrowed) waiting means (Jump target) self.old _memory.old result self.new _memory.new }
+        ensures { Acted (unit_of U.least U.greatest U.narrowed) I.waiting O.means (Jump target) self.old _memory.old result self.new _memory.new }
     {
         self.counter = target as usize;
         Ok(())
@@ -222,7 +222,7 @@ impl Core {
     ) -> Result<(), Cause>
         requires placed { self.old.counter ≤ 4096 }
         requires target { 1 ≤ target }
-        ensures { Acted (unit_of least greatest narrowed) waiting means (JumpIfZero target) self.old memory.old result self.new memory.new }
+        ensures { Acted (unit_of U.least U.greatest U.narrowed) I.waiting O.means (JumpIfZero target) self.old memory.old result self.new memory.new }
     {
         let v = self.pop(memory)?;
         self.counter = if v == 0 {
@@ -240,7 +240,7 @@ impl Core {
     ) -> Result<(), Cause>
         requires placed { self.old.counter ≤ 4096 }
         requires cell { (1 ≤ n) × (n ≤ 64) }
-        ensures { Acted (unit_of least greatest narrowed) waiting means (Read n) self.old memory.old result self.new memory.new }
+        ensures { Acted (unit_of U.least U.greatest U.narrowed) I.waiting O.means (Read n) self.old memory.old result self.new memory.new }
     {
         let Some(x) = memory.input.take() else {
             return Err(Cause::NoInput);
@@ -260,7 +260,7 @@ impl Core {
     ) -> Result<(), Cause>
         requires placed { self.old.counter ≤ 4096 }
         requires cell { (1 ≤ n) × (n ≤ 64) }
-        ensures { Acted (unit_of least greatest narrowed) waiting means (Write n) self.old memory.old result self.new memory.new }
+        ensures { Acted (unit_of U.least U.greatest U.narrowed) I.waiting O.means (Write n) self.old memory.old result self.new memory.new }
     {
         let Some(v) = memory.cell(n) else {
             return Err(Cause::Unset);

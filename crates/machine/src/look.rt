@@ -13,27 +13,27 @@ use units::arithmetic::Arithmetic;
 impl<'a, U: Arithmetic, I: InputTape, O: OutputTape> Run<'a, U, I, O> {
     // The address of the next instruction, from 1.
     pub fn counter(&self) -> usize
-        ensures { result ≡ (state_of waiting means self.now).counter }
+        ensures { result ≡ (state_of I.waiting O.means self.now).counter }
     {
         self.core.counter
     }
 
     // The steps made so far.
     pub fn steps(&self) -> u64
-        ensures { result ≡ (state_of waiting means self.now).steps }
+        ensures { result ≡ (state_of I.waiting O.means self.now).steps }
     {
         self.core.steps
     }
 
     pub fn fault(&self) -> Option<Fault>
-        ensures { fault_of result ≡ (state_of waiting means self.now).fault }
+        ensures { fault_of result ≡ (state_of I.waiting O.means self.now).fault }
     {
         self.core.fault
     }
 
     // The word at a place of the stack; the top has place 0.
     pub fn word(&self, place: usize) -> Option<i32>
-        ensures { result ≡ nth (state_of waiting means self.now).stack place }
+        ensures { result ≡ nth (state_of I.waiting O.means self.now).stack place }
     {
         let depth = self.core.depth as usize;
         if place >= depth {
@@ -44,7 +44,7 @@ impl<'a, U: Arithmetic, I: InputTape, O: OutputTape> Run<'a, U, I, O> {
 
     // The cells, from cell 1 on.
     pub fn cells(&self) -> &[Option<i32>]
-        ensures { result.now ≡ (state_of waiting means self.now).world.cells }
+        ensures { result.now ≡ (state_of I.waiting O.means self.now).world.cells }
     {
         &self.memory.cells
     }

@@ -64,7 +64,7 @@ impl Core {
     ) -> Result<(), Cause>
         requires two { 2 ≤ self.old.depth }
         requires placed { self.old.counter ≤ 4096 }
-        ensures { Done waiting means (push self.old.counter (drop 2 (stack_of self.old memory.old)) (world_of waiting means memory.old) 23 (narrowed exact)) self.old memory.old result self.new memory.new }
+        ensures { Done I.waiting O.means (push self.old.counter (drop 2 (stack_of self.old memory.old)) (world_of I.waiting O.means memory.old) 23 (U.narrowed exact)) self.old memory.old result self.new memory.new }
     {
         let Some(v) = memory.unit.narrow(exact) else {
             return Err(Cause::OutOfRange);
@@ -81,7 +81,7 @@ impl Core {
     ) -> Result<(), Cause>
         requires two { 2 ≤ self.old.depth }
         requires placed { self.old.counter ≤ 4096 }
-        ensures { Done waiting means (comparison self.old.counter (drop 2 (stack_of self.old memory.old)) (world_of waiting means memory.old) (truth answer)) self.old memory.old result self.new memory.new }
+        ensures { Done I.waiting O.means (comparison self.old.counter (drop 2 (stack_of self.old memory.old)) (world_of I.waiting O.means memory.old) (truth answer)) self.old memory.old result self.new memory.new }
     {
         self.replace(memory, i32::from(answer));
         Ok(())

@@ -30,7 +30,7 @@ impl fmt::Display for Delivery {
 }
 
 fn deliver<U: Arithmetic, O: OutputTape>(unit: &U, output: &mut O, x: i32) -> Delivery
-    ensures { Delivered narrowed (means output.old) x result (means output.new) }
+    ensures { Delivered U.narrowed (O.means output.old) x result (O.means output.new) }
 {
     let Some(v) = unit.narrow(i64::from(x)) else {
         return Delivery::OutOfRange;
@@ -48,9 +48,9 @@ pub fn relay<R: Print, U: Arithmetic, I: InputTape, O: OutputTape>(
     input: &mut I,
     output: &mut O,
 ) -> io::Result<()>
-    ensures taken { OnOk result (waiting input.new ≡ []) }
-    ensures put { OnOk result ((means output.new).written ≡ (means output.old).written ++ puts narrowed (waiting input.old) (means output.old).room) }
-    ensures settled { OnOk result ((means output.new).rest ≡ length (means output.new).written) }
+    ensures taken { OnOk result (I.waiting input.new ≡ []) }
+    ensures put { OnOk result ((O.means output.new).written ≡ (O.means output.old).written ++ puts U.narrowed (I.waiting input.old) (O.means output.old).room) }
+    ensures settled { OnOk result ((O.means output.new).rest ≡ length (O.means output.new).written) }
 {
     while let Some(x) = input.take() {
         println!(rt; "took {x}")?;

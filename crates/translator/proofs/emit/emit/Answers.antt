@@ -8,7 +8,7 @@ use Rattle.translator.proofs.emit.emit.Goals as goal
 
 pub returns : goal.returns
 returns c =
-    c.in-ok-emit-statements.ensures
-    ∙ ap (λ v. v ++ code_of_statements (cells_of_statements (mksymtab (declared_of c.args.source.now c.as-slice.result.now)) (statements_of c.args.source.now c.args.program.now.statements)) (suc (length v))) c.new-code.ensures.items
-    ∙ ap (λ ds. code_of_statements (cells_of_statements (mksymtab (declared_of c.args.source.now ds)) (statements_of c.args.source.now c.args.program.now.statements)) 1) c.as-slice.ensures.value
+    c.in_ok-emit_statements.ensures
+    ∙ ap (λ v. v ++ code_of_statements (cells_of_statements (mksymtab (declared_of c.args.source.now c.as_slice.result.now)) (statements_of c.args.source.now c.args.program.now.statements)) (suc (length v))) c.new-code.ensures.items
+    ∙ ap (λ ds. code_of_statements (cells_of_statements (mksymtab (declared_of c.args.source.now ds)) (statements_of c.args.source.now c.args.program.now.statements)) 1) c.as_slice.ensures.value
     ∙ sym (linearised (mksymtab (declared_of c.args.source.now (vec_items c.args.program.now.declared))) (statements_of c.args.source.now c.args.program.now.statements))

@@ -5,7 +5,7 @@ use Rattle.translator.proofs.emit.places_of.Goals as goal
 
 pub loop-place-preserved : goal.loop-place-preserved
 loop-place-preserved c =
-    mapped_more (λ x. x.1) c.args.code.now c.loop-place.place-index _ _ c.loop-place-test.true c.loop-place.invariant c.in-ok-push.ensures.items refl
+    mapped_more (λ x. x.1) c.args.code.now c.loop-place.place-index _ _ c.loop-place-test.true c.loop-place.invariant c.in_ok-push.ensures.items refl
 
 pub returns : goal.returns
 returns c =

@@ -6,18 +6,18 @@ use Rattle.translator.proofs.expressions.+expression_emitters.Goals as goal
 pub emit-expression-returns-in-ok-put-2 : goal.emit-expression-returns-in-ok-put-2
 emit-expression-returns-in-ok-put-2 t c =
     twice (vec_items c.args.code.now) (term_code c.args.symbols c.in-Negative.term) _ c.in-ok-emit-term.ensures
-    (twice (vec_items c.emit-term-in-Negative.new.code) _ _ c.in-ok-put.ensures c.in-ok-put-2.ensures)
+    (twice (vec_items c.emit_term-in-Negative.new.code) _ _ c.in-ok-put.ensures c.in-ok-put-2.ensures)
     ∙ ap (λ x. vec_items c.args.code.now ++ expression_code c.args.symbols x) (sym c.in-Negative.is)
 
-pub emit-expression-returns-in-ok-put-3 : goal.emit-expression-returns-in-ok-put-3
-emit-expression-returns-in-ok-put-3 t c =
+pub emit_expression-returns-in_ok-put-in-Sum : goal.emit_expression-returns-in_ok-put-in-Sum
+emit_expression-returns-in_ok-put-in-Sum t c =
     joined (vec_items c.args.code.now) (expression_code c.args.symbols c.in-Sum.left.value) (term_code c.args.symbols c.in-Sum.right) _ _ c.in-Sum.place
     (c.in-ok-emit-expression.ensures ∙ ap (λ x. vec_items c.args.code.now ++ expression_code c.args.symbols x) c.deref.ensures)
     c.in-ok-emit-term-2.ensures c.in-ok-put-3.ensures c.sum.ensures
     ∙ ap (λ x. vec_items c.args.code.now ++ expression_code c.args.symbols x) (sym c.in-Sum.is)
 
-pub emit-term-returns-in-ok-put : goal.emit-term-returns-in-ok-put
-emit-term-returns-in-ok-put t c =
+pub emit_term-returns-in_ok-put-in-Product : goal.emit_term-returns-in_ok-put-in-Product
+emit_term-returns-in_ok-put-in-Product t c =
     joined (vec_items c.args.code.now) (term_code c.args.symbols c.in-Product.left.value) (factor_code c.args.symbols c.in-Product.right) _ _ c.in-Product.place
     (c.in-ok-emit-term.ensures ∙ ap (λ x. vec_items c.args.code.now ++ term_code c.args.symbols x) c.deref.ensures)
     c.in-ok-emit-factor.ensures c.in-ok-put.ensures c.product.ensures

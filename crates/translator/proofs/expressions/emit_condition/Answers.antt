@@ -6,4 +6,4 @@ use Rattle.translator.proofs.expressions.emit_condition.Goals as goal
 pub returns : goal.returns
 returns c =
     joined (vec_items c.args.code.now) (expression_code c.args.symbols c.args.condition.now.left) (expression_code c.args.symbols c.args.condition.now.right) _ _ c.args.condition.now.place
-    c.in-ok-emit-expression.ensures c.in-ok-emit-expression-2.ensures c.in-ok-put.ensures c.comparison.ensures
+    c.in_ok-emit_expression.ensures c.in_ok-emit_expression-2.ensures c.in_ok-put.ensures c.comparison.ensures

@@ -4,4 +4,4 @@ use Rattle.translator.proofs.program.translate_program.Goals as goal
 
 pub emit-requires : goal.emit-requires
 emit-requires c =
-    omega (arith, c.in-ok-check-names.ensures.declaration.few, length_declared_of c.args.source.now (vec_items c.args.program.now.declared), c.args.program.now.declared.ok.0)
+    omega (arith, c.in_ok-check_names.ensures.declaration.few, length_declared_of c.args.source.now (vec_items c.args.program.now.declared), c.args.program.now.declared.ok.0)

@@ -4,5 +4,5 @@ use Rattle.machine.proofs.run.Core.greater.Goals as goal
 
 pub returns : goal.returns
 returns g c =
-    let t = c.in-ok-x.ensures.words in
-    done_as _ _ (compared _ _ _ _ _ 0 0 1 _ t (greater_is _ _ t.left t.right)) c.replace-by-answer.ensures
+    let t = c.in_ok-x.ensures.words in
+    done_as _ _ (compared _ _ _ _ _ 0 0 1 _ t (greater_is _ _ t.left t.right)) c.replace_by_answer.ensures

@@ -3,8 +3,8 @@ use Rattle.machine.specs.View.{tops}
 use Rattle.machine.proofs.Stacks.{space}
 use Rattle.machine.proofs.run.Core.literal.Goals as goal
 
-pub returns-in-default : goal.returns-in-default
-returns-in-default g c =
+pub returns-in_default : goal.returns-in_default
+returns-in_default g c =
     let lt : c.args.self.now.depth < 68 = omega arith in
     let t : ltb (length (tops c.args.memory.now.stack c.args.self.now.depth)) 68 ≡ true = space _ _ lt in
     search rules

@@ -5,8 +5,8 @@ use Rattle.machine.proofs.Fetching.{between, inside_at}
 use Rattle.machine.proofs.Stepping.{running_placed, none_there, has_ended, has_faulted, acted}
 use Rattle.machine.proofs.run.Core.step.Goals as goal
 
-pub returns-in-default : goal.returns-in-default
-returns-in-default g c = none_there _ c.args.code.now _ _ _ _ _ c.in-default.ensures
+pub returns-in_default : goal.returns-in_default
+returns-in_default g c = none_there _ c.args.code.now _ _ _ _ _ c.in_default.ensures
 
 pub returns-in-Ended-default : goal.returns-in-Ended-default
 returns-in-Ended-default g c = has_ended _ c.args.code.now _ _ c.args.limit _ _ c.in-Ended-default.ensures
@@ -49,8 +49,8 @@ store-done-requires g c =
 pub jump-done-requires : goal.jump-done-requires
 jump-done-requires g c = record { target = (between _ _ (inside_at _ c.args.code.now _ _ c.requires.sound (ap Some (sym c.in-Running-Jump.is-1) ∙ c.in-Some.ensures))).0 }
 
-pub jump-if-zero-done-requires : goal.jump-if-zero-done-requires
-jump-if-zero-done-requires g c =
+pub jump_if_zero-done-requires : goal.jump_if_zero-done-requires
+jump_if_zero-done-requires g c =
     let placed = running_placed c.args.self.now.fault _ _ _ _ (sym c.in-Running-JumpIfZero.is-0 ∙ c.status.ensures) in
     record {
       placed = omega (arith, placed, c.requires.few);
@@ -105,7 +105,7 @@ returns-in-Running-JumpIfZero g c =
     let run = sym c.in-Running-JumpIfZero.is-0 ∙ c.status.ensures in
     let at = ap Some (sym c.in-Running-JumpIfZero.is-1) ∙ c.in-Some.ensures in
     let close = c.close-in-Running-JumpIfZero.ensures in
-    acted _ c.args.code.now _ _ c.args.limit _ c.jump-if-zero-done.new.self _ _ _ _ _ _ run at c.jump-if-zero-done.ensures close.closed close.value
+    acted _ c.args.code.now _ _ c.args.limit _ c.jump_if_zero-done.new.self _ _ _ _ _ _ run at c.jump_if_zero-done.ensures close.closed close.value
 
 pub returns-in-Running-Add : goal.returns-in-Running-Add
 returns-in-Running-Add g c =
@@ -175,11 +175,11 @@ returns-in-Running-AtMost g c =
     let run = sym c.in-Running-AtMost.is-0 ∙ c.status.ensures in
     let at = ap Some (sym c.in-Running-AtMost.is-1) ∙ c.in-Some.ensures in
     let close = c.close-in-Running-AtMost.ensures in
-    acted _ c.args.code.now _ _ c.args.limit _ c.at-most-done.new.self _ _ _ _ _ _ run at c.at-most-done.ensures close.closed close.value
+    acted _ c.args.code.now _ _ c.args.limit _ c.at_most-done.new.self _ _ _ _ _ _ run at c.at_most-done.ensures close.closed close.value
 
 pub returns-in-Running-AtLeast : goal.returns-in-Running-AtLeast
 returns-in-Running-AtLeast g c =
     let run = sym c.in-Running-AtLeast.is-0 ∙ c.status.ensures in
     let at = ap Some (sym c.in-Running-AtLeast.is-1) ∙ c.in-Some.ensures in
     let close = c.close-in-Running-AtLeast.ensures in
-    acted _ c.args.code.now _ _ c.args.limit _ c.at-least-done.new.self _ _ _ _ _ _ run at c.at-least-done.ensures close.closed close.value
+    acted _ c.args.code.now _ _ c.args.limit _ c.at_least-done.new.self _ _ _ _ _ _ run at c.at_least-done.ensures close.closed close.value

@@ -9,12 +9,12 @@ use Rattle.machine.proofs.Stepping.{made_of, halted_of}
 use Rattle.machine.proofs.Advancing.{status_is, faulted_stays, faulted_status, step_more, advance_is}
 use Rattle.machine.proofs.run.Run.advance.Goals as goal
 
-pub returns-then-is-some : goal.returns-then-is-some
-returns-then-is-some g c =
+pub returns-then-is_some : goal.returns-then-is_some
+returns-then-is_some g c =
     let unit = unit_of g.U.Arithmetic.least g.U.Arithmetic.greatest g.U.Arithmetic.narrowed in
     let run = c.args.self.now in
     let view = state_of g.I.InputTape.waiting g.O.OutputTape.means run in
-    let e = c.if-is-some.ensures in
+    let e = c.if-is_some.ensures in
     record {
       moved = faulted_stays unit (code_of run) run.core.fault (min c.args.allowance (run.lid - run.core.steps)) view refl e;
       image = refl;

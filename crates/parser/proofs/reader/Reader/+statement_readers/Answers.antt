@@ -42,7 +42,7 @@ pub keyword-returns-in_ok-depth-in-If : goal.keyword-returns-in_ok-depth-in-If
 keyword-returns-in_ok-depth-in-If t c = record {
   takes = λ source es x s.
       onward _ _ _ c.if_statement.result
-      (keyword_is c.args.place c.args.depth _ es x s c.in-If.is ∙ if_read _ c.args.place c.in-ok-depth.ensures es x s)
+      (keyword_is c.args.place c.args.depth _ es x s c.in-If.is ∙ if_read _ c.args.place c.in_ok-depth-in-If.ensures es x s)
       (λ x h. tt) (c.if_statement.ensures.takes source es x s);
   fewer = c.if_statement.ensures.fewer;
 }
@@ -51,7 +51,7 @@ pub keyword-returns-in_ok-depth-in-While : goal.keyword-returns-in_ok-depth-in-W
 keyword-returns-in_ok-depth-in-While t c = record {
   takes = λ source es x s.
       onward _ _ _ c.while_statement.result
-      (keyword_is c.args.place c.args.depth _ es x s c.in-While.is ∙ while_read _ c.args.place c.in-ok-depth-2.ensures es x s)
+      (keyword_is c.args.place c.args.depth _ es x s c.in-While.is ∙ while_read _ c.args.place c.in_ok-depth-in-While.ensures es x s)
       (λ x h. tt) (c.while_statement.ensures.takes source es x s);
   fewer = c.while_statement.ensures.fewer;
 }
@@ -60,7 +60,7 @@ pub keyword-returns-in_ok-depth-in-LeftBrace : goal.keyword-returns-in_ok-depth-
 keyword-returns-in_ok-depth-in-LeftBrace t c = record {
   takes = λ source es x s.
       onward _ _ _ c.block.result
-      (keyword_is c.args.place c.args.depth _ es x s c.in-LeftBrace.is ∙ block_read _ c.args.place c.in-ok-depth-3.ensures es x s)
+      (keyword_is c.args.place c.args.depth _ es x s c.in-LeftBrace.is ∙ block_read _ c.args.place c.in_ok-depth-in-LeftBrace.ensures es x s)
       (λ x h. tt) (c.block.ensures.takes source (tail 32 es x ∷ s));
   fewer = c.block.ensures.fewer;
 }

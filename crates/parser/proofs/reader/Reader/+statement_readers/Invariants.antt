@@ -5,8 +5,8 @@ use Rattle.parser.proofs.reader.Reader.+statement_readers.Given as goal
 abbrev pub decreases-block : goal.decreases-block
 decreases-block l = 4 * length (left l.self.now) + 2
 
-abbrev pub decreases-if-statement : goal.decreases-if-statement
-decreases-if-statement l = 4 * length (left l.self.now) + 2
+abbrev pub decreases-if_statement : goal.decreases-if_statement
+decreases-if_statement l = 4 * length (left l.self.now) + 2
 
 abbrev pub decreases-keyword : goal.decreases-keyword
 decreases-keyword l = 4 * length (left l.self.now) + 3
@@ -17,5 +17,5 @@ decreases-statement l = 4 * length (left l.self.now)
 abbrev pub decreases-statements : goal.decreases-statements
 decreases-statements l = 4 * length (left l.self.now) + 1
 
-abbrev pub decreases-while-statement : goal.decreases-while-statement
-decreases-while-statement l = 4 * length (left l.self.now) + 2
+abbrev pub decreases-while_statement : goal.decreases-while_statement
+decreases-while_statement l = 4 * length (left l.self.now) + 2

@@ -3,8 +3,8 @@ use Rattle.syntax.specs.TreeOf.{name_of, declared_of}
 use Rattle.translator.proofs.Looked.{mksymtab_is, length_declared_of}
 use Rattle.translator.proofs.symbols.Symbols.cell.Goals as goal
 
-pub overflow-cast-result : goal.overflow-cast-result
-overflow-cast-result c =
+pub overflow_cast-result : goal.overflow_cast-result
+overflow_cast-result c =
     omega (arith, c.in-Some.ensures.looked.last, length_declared_of c.args.self.source.now c.args.self.declared.now, c.args.self.few)
 
 pub returns-in-Some : goal.returns-in-Some

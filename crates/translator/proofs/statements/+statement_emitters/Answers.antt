@@ -39,15 +39,15 @@ emit_if_else-returns t c =
 
 pub emit_statement-returns-in_ok-put-in-Assign : goal.emit_statement-returns-in_ok-put-in-Assign
 emit_statement-returns-in_ok-put-in-Assign t c =
-    twice (vec_items c.args.code.now) (expression_code c.args.symbols c.in-Assign.value) _ c.in-ok-emit-expression.ensures c.in_ok-put.ensures
+    twice (vec_items c.args.code.now) (expression_code c.args.symbols c.in-Assign.value) _ c.in_ok-emit_expression-in-Assign.ensures c.in_ok-put-in-Assign.ensures
     ∙ ap (λ n. vec_items c.args.code.now ++ (expression_code c.args.symbols c.in-Assign.value ++ ((Store n, c.in-Assign.name.place) ∷ []))) c.cell.ensures
     ∙ ap (λ x. vec_items c.args.code.now ++ statement_code c.args.symbols x (suc (length (vec_items c.args.code.now)))) (sym c.in-Assign.is)
 
 pub emit_statements-returns-in_ok-emit_statements-in-Then : goal.emit_statements-returns-in_ok-emit_statements-in-Then
 emit_statements-returns-in_ok-emit_statements-in-Then t c =
     followed (vec_items c.args.code.now) (statement_code c.args.symbols c.in-Then.statement (suc (length (vec_items c.args.code.now)))) (statements_code c.args.symbols c.in-Then.rest.value)
-    c.in_ok-emit_statement.ensures
-    (c.in-ok-emit-statements.ensures ∙ ap (λ x. vec_items c.emit_statement.new.code ++ statements_code c.args.symbols x (suc (length (vec_items c.emit_statement.new.code)))) c.deref.ensures)
+    c.in_ok-emit_statement-in-Then.ensures
+    (c.in_ok-emit_statements-in-Then.ensures ∙ ap (λ x. vec_items c.emit_statement.new.code ++ statements_code c.args.symbols x (suc (length (vec_items c.emit_statement.new.code)))) c.deref.ensures)
     ∙ ap (λ x. vec_items c.args.code.now ++ statements_code c.args.symbols x (suc (length (vec_items c.args.code.now)))) (sym c.in-Then.is)
 
 pub emit_while-patch-requires : goal.emit_while-patch-requires

@@ -1,4 +1,4 @@
-use Rattle.std.proofs.Common.{◌+◌, ◌*◌}
+use Rattle.std.proofs.Common.{◌+◌, ◌*◌, max}
 use Rattle.syntax.proofs.tree.Statement.TheLaws as statement
 use Rattle.syntax.proofs.tree.Statements.TheLaws as statements
 use Rattle.translator.proofs.statements.+statement_emitters.Given as goal
@@ -7,7 +7,7 @@ abbrev pub decreases-emit_if : goal.decreases-emit_if
 decreases-emit_if l = 2 * statement.the_size l.body.now + 1
 
 abbrev pub decreases-emit_if_else : goal.decreases-emit_if_else
-decreases-emit_if_else l = 2 * (statement.the_size l.body.now + statement.the_size l.else_body.now) + 1
+decreases-emit_if_else l = 2 * max (statement.the_size l.body.now) (statement.the_size l.else_body.now) + 1
 
 abbrev pub decreases-emit_while : goal.decreases-emit_while
 decreases-emit_while l = 2 * statement.the_size l.body.now + 1

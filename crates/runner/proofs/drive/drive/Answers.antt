@@ -15,8 +15,8 @@ use Rattle.runner.proofs.drive.drive.Goals as goal
 pub loop-allowance-init : goal.loop-allowance-init
 loop-allowance-init g c = (refl, refl, refl, sym (ap (λ (m : am.Run). m.steps) c.start-run.ensures.new), refl)
 
-pub overflow-add-steps : goal.overflow-add-steps
-overflow-add-steps g c =
+pub overflow_add-steps : goal.overflow_add-steps
+overflow_add-steps g c =
     let inv = c.loop-allowance.invariant in
     let after = c.advance-advanced.new.self in
     record { fits = omega (arith, inv.3, c.from-steps.ensures, c.advance-advanced.ensures.steps, after.lidded, after.wide) }
@@ -64,7 +64,7 @@ returns g c =
     report places ∙ finish_same code (code_of run) lid run.lid _ (view run) places (same ∙ started.image) (inv.2 ∙ started.lid) moved in
     record {
       report = whole;
-      meant = driven_means c.one-word-each.ensures.each unit t lid xs code given whole;
+      meant = driven_means c.one_word_each.ensures.each unit t lid xs code given whole;
       steps = inv.3 ∙ sym (ap (λ (r : Report). r.steps) (report []));
       last = subst (λ (ys : List ℕ). LastOf ys c.loop-allowance.last (status_number c.finish.result.status)) all
           (subst (λ (n : ℕ). LastOf (take c.loop-allowance.allowance-index xs) c.loop-allowance.last n)

@@ -1,10 +1,10 @@
 -- Advances after advances.
-use Rattle.std.proofs.Common.{◌≡◌, ℕ, zero, suc, ◌+◌, ◌-◌, ◌<◌, ◌≤◌, min, Bool, true, false, cond, eqb, ◌⊎◌, List, ℤ, Some, None, Option, sym, refl, ap, ◌∙◌, inl, inr, ⊎_elim, arith}
+use Rattle.std.proofs.Common.{◌≡◌, ℕ, zero, suc, ◌+◌, ◌-◌, ◌≤◌, min, Bool, true, false, cond, eqb, ◌⊎◌, List, Some, None, Option, sym, refl, ap, ◌∙◌, inl, inr, ⊎_elim, arith}
 use Rattle.std.proofs.lemmas.Bool.Decides.{nat_tests}
 use Rattle.code.specs.declared.Instruction.{Instruction}
-use Rattle.code.specs.World.{ArithmeticUnit, World, Fault}
+use Rattle.code.specs.World.{ArithmeticUnit, Fault}
 use Rattle.code.specs.Machine.{Run, Step, moved, faulted, execute, stepped, once_with, once, moves, advance, status, status_with, fetch}
-use Rattle.code.specs.Advances.{made, Together, Within, AdvancesAddUp, AdvancesStayWithin}
+use Rattle.code.specs.Advances.{AdvancesAddUp, AdvancesStayWithin}
 use Rattle.code.proofs.Moving.{once_ended, once_faulted, moves_stuck, moves_add}
 
 module _ (U : ArithmeticUnit) (code : List Instruction) where

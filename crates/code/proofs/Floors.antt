@@ -1,5 +1,5 @@
 -- Division rounds down, by the signs of its operands.
-use Rattle.std.proofs.Common.{◌≡◌, ℕ, zero, suc, ◌+◌, ◌-◌, ◌*◌, ◌/◌, ◌%◌, ◌<◌, ◌≤◌, Bool, true, false, cond, not, T, ltb, leb, ℤ, pos, negsuc, ◌+ℤ◌, ◌-ℤ◌, ◌*ℤ◌, neg_ℤ, ◌≤ℤ◌, ◌<ℤ◌, sym, refl, ap, ◌∙◌, subst, mod-lt, mul-zero, mul-suc, arith, le→leb, ltb→lt, lt→ltb}
+use Rattle.std.proofs.Common.{◌≡◌, ℕ, zero, suc, ◌+◌, ◌-◌, ◌*◌, ◌/◌, ◌%◌, ◌<◌, ◌≤◌, Bool, true, false, cond, T, ltb, ℤ, pos, negsuc, ◌+ℤ◌, ◌*ℤ◌, neg_ℤ, sym, refl, ap, ◌∙◌, subst, mod-lt, mul-zero, mul-suc, arith, le→leb, ltb→lt, lt→ltb}
 use native.Mathlib.Nat.{div-add-mod}
 use lib.IntN.{sub_ℕ, -ℤ-+ℤ_cancel, neg_ℤ-neg_ℤ}
 use lib.Signed.{le_z_yes, lt_z_yes}

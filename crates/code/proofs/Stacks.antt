@@ -1,11 +1,10 @@
 -- The laws of the stack, instruction by instruction.
-use Rattle.std.proofs.Common.{◌≡◌, ℕ, zero, suc, ◌+◌, ◌-◌, ◌<◌, ◌≤◌, Bool, true, false, cond, T, eqb, ltb, List, [], ◌∷◌, ◌++◌, length, get_or, ℤ, pos, negsuc, ◌+ℤ◌, ◌-ℤ◌, ◌*ℤ◌, Some, None, Option, sym, refl, ap, ◌∙◌, arith, ltb→lt, lt→ltb, length-append}
-use Rattle.code.specs.declared.Instruction.{Instruction}
+use Rattle.std.proofs.Common.{◌≡◌, ℕ, zero, suc, ◌+◌, ◌-◌, ◌<◌, ◌≤◌, Bool, true, false, cond, eqb, ltb, List, [], ◌∷◌, ◌++◌, length, get_or, ℤ, pos, negsuc, ◌+ℤ◌, ◌-ℤ◌, ◌*ℤ◌, Some, None, Option, sym, refl, ap, ◌∙◌, arith, ltb→lt, lt→ltb, length-append}
 use Rattle.code.specs.declared.Instruction.TheVariants.{Literal, Read, Write, Load, Store, Jump, JumpIfZero, Add, Subtract, Multiply, Divide, Modulo, Less, Equal, Unequal, Greater, AtMost, AtLeast}
 use Rattle.code.specs.World.{World, plain, ArithmeticUnit}
 use Rattle.code.specs.Division.{quotient, remainder, is_zero}
 use Rattle.code.specs.Machine.{Step, moved, faulted, with_space, push, division, read_into, read, write, put, pop_two, execute}
-use Rattle.code.specs.Stack.{takes, over, Frame, TooFew, Full, Jumps}
+use Rattle.code.specs.Stack.{over, Frame, TooFew, Full, Jumps}
 use Rattle.code.proofs.Floors.{T_true, not_T_false}
 
 over_cond : (deep : List ℤ) (b : Bool) (x y : Step) → cond b (over deep x) (over deep y) ≡ over deep (cond b x y)

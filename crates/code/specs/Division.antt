@@ -3,7 +3,7 @@
 --   remainder    what is left of the dividend
 --   is_zero      whether a number is 0
 --   RoundsDown   the law: quotient and remainder make up the dividend, and the remainder has its divisor's sign and is nearer to 0
-use Rattle.std.specs.Prelude.{◌≡◌, ℕ, zero, suc, ◌/◌, Bool, true, false, ℤ, pos, negsuc, ◌+ℤ◌, ◌-ℤ◌, ◌*ℤ◌, ◌≤ℤ◌, ◌<ℤ◌}
+use Rattle.std.specs.Prelude.{◌≡◌, zero, suc, ◌/◌, Bool, true, false, ℤ, pos, negsuc, ◌+ℤ◌, ◌-ℤ◌, ◌*ℤ◌, ◌≤ℤ◌, ◌<ℤ◌}
 
 abbrev pub quotient : ℤ → ℤ → ℤ
 quotient (pos a) (pos b) = pos (a / b)

@@ -5,7 +5,7 @@
 --   TooFew    with fewer words than it takes it faults with 25, before all else
 --   Full      an instruction that only puts a word on faults with 26 on a full stack, before all else
 --   Jumps     JMC jumps on 0, and on nothing else
-use Rattle.std.specs.Prelude.{◌≡◌, ℕ, suc, ◌+◌, ◌<◌, ◌≤◌, List, [], ◌∷◌, ◌++◌, length, ℤ, pos, negsuc, ◌≢◌}
+use Rattle.std.specs.Prelude.{◌≡◌, ℕ, suc, ◌+◌, ◌<◌, ◌≤◌, List, ◌∷◌, ◌++◌, length, ℤ, pos, ◌≢◌}
 use Rattle.code.specs.declared.Instruction.{Instruction}
 use Rattle.code.specs.declared.Instruction.TheVariants.{Literal, Read, Write, Load, Store, Jump, JumpIfZero, Add, Subtract, Multiply, Divide, Modulo, Less, Equal, Unequal, Greater, AtMost, AtLeast}
 use Rattle.code.specs.World.{World, plain, ArithmeticUnit}

@@ -1,21 +1,21 @@
 -- Trees of what is expected begin with a token that is taken, and leave trees of what is then expected.
-use mathlib.Core.Path.{◌≡◌, refl, sym, ap, subst, ◌∙◌}
+use mathlib.Core.Path.{◌≡◌, refl, sym, ap, ◌∙◌}
 use mathlib.Core.Bool.{Bool, true, false, cond}
-use mathlib.Core.List.{List, [], ◌∷◌, ◌++◌}
-use mathlib.Core.Logic.{◌⊎◌, inl, inr}
-use Prim.Native.Nat.{ℕ, zero, suc, max, ◌≤◌}
+use mathlib.Core.List.{List, [], ◌∷◌}
+use mathlib.Core.Logic.{inr}
+use Prim.Native.Nat.{ℕ, zero, suc, ◌≤◌}
 use native.Mathlib.Omega.{arith}
 use Rattle.grammar.specs.Kinds.{Kind, Mark, Additive, Plus, Minus, Multiplicative, Times, Divide, Modulo, Relation, Equal, Unequal, Less, Greater, AtMost, AtLeast}
 use Rattle.grammar.specs.Kinds as kind
 use Rattle.grammar.specs.Grammar.{Condition, test, Expression, Factor, Products, Sums, Statement, Statements, Names, Declaration, bare, signed, term, variable, literal, paren, single, by, alone, and, assign, scan, print, when, either, loop, block, none, then, nomore, also, nothing, variables}
 use Rattle.grammar.specs.Grammar as tree
-use Rattle.grammar.specs.Automaton.{End, at_semicolon, at_paren, at_relation, Frame, braces, whole, Symbol, token, identifier, zero_number, expression, factor, products, sums, end, statement, tail, names, body, Step, next, bad, deep, Entry, pick, level, entries, step, end_entries, inside, factor_entries, expression_entries, product_entries, ifs, whiles, blocks, statement_entries, elses, closes, tail_entries}
-use Rattle.grammar.proofs.Forest.{Tail, other, last, EndTree, Tree, Good, GoodTail, Forest, tail_onto, spell, AllGood, After, spell_after, GoodAfter, Hit, Found, found, Meets}
+use Rattle.grammar.specs.Automaton.{End, at_semicolon, at_paren, at_relation, Frame, braces, whole, Symbol, token, identifier, zero_number, expression, factor, products, sums, end, statement, tail, names, body, next, bad, Entry, pick, level, step, statement_entries, elses, closes, tail_entries}
+use Rattle.grammar.proofs.Forest.{Tail, other, last, EndTree, Tree, Good, GoodTail, Forest, spell, AllGood, After, spell_after, GoodAfter, Found, found}
 use store.Seg.{eqb_same}
 use mathlib.Core.Bool.{true≢false}
 use Rattle.grammar.specs.Kinds.{class, same}
 use Rattle.grammar.proofs.Forest.{onto, found_at}
-use Rattle.grammar.proofs.Grow.{Grown, grow, grow_any, grow_tail, tail_tree, body_tree, meets_shut}
+use Rattle.grammar.proofs.Grow.{grow, grow_any, grow_tail, tail_tree, body_tree}
 
 abbrev pub CutAt : (y : Symbol) (s : List Symbol) → Tree y → Forest s → Kind → Type 0
 CutAt y s t f k = (a : After (step (y ∷ s) k)) × (onto y t (spell s f) ≡ k ∷ spell_after (step (y ∷ s) k) a) × GoodAfter (step (y ∷ s) k) a × ((grow y s k a).0 ≡ (t, f))

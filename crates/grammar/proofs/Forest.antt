@@ -1,7 +1,7 @@
 -- The trees that a stack stands for.
-use mathlib.Core.Path.{◌≡◌, refl, sym, ap, subst, ◌∙◌}
+use mathlib.Core.Path.{◌≡◌, refl, sym, ap, ◌∙◌}
 use mathlib.Core.Bool.{Bool, true, false, cond}
-use mathlib.Core.List.{List, [], ◌∷◌, ◌++◌}
+use mathlib.Core.List.{List, [], ◌∷◌}
 use mathlib.Core.Logic.{◌⊎◌, inl, inr}
 use Prim.Native.Nat.{ℕ, zero, suc, max, ◌≤◌}
 use lib.ListN.{get_or}
@@ -9,7 +9,7 @@ use borrow.Author.Tests.{eqb-true}
 use Rattle.grammar.specs.Kinds.{Name, Head, Int, Main, Scanf, Printf, If, Else, While, Return, Format, LeftParen, RightParen, LeftBrace, RightBrace, Comma, Semicolon, Ampersand, Assign, Equal, Unequal, Less, Greater, AtMost, AtLeast, Plus, Minus, Times, Divide, Modulo, Kind, Mark, Additive, Multiplicative, Relation, class, same}
 use Rattle.grammar.specs.Kinds as kind
 use Rattle.grammar.specs.Grammar.{Expression, Factor, Products, Sums, Statement, Statements, Names, Declaration, expression_onto, factor_onto, products_onto, sums_onto, statement_onto, statements_onto, names_onto, declaration_onto, expression_parens, factor_parens, products_parens, sums_parens, statement_parens, statements_parens, statement_depth, statements_depth, ends_open, ElseNearest, ElsesNearest}
-use Rattle.grammar.specs.Automaton.{End, at_semicolon, at_paren, at_relation, Frame, braces, whole, Symbol, token, identifier, zero_number, expression, factor, products, sums, end, statement, tail, names, body, Step, next, bad, deep, Entry, pick, level, entries, step}
+use Rattle.grammar.specs.Automaton.{End, at_semicolon, at_paren, at_relation, Frame, braces, whole, Symbol, token, identifier, zero_number, expression, factor, products, sums, end, statement, tail, names, body, Step, next, bad, deep, Entry, pick, level}
 
 -- what follows a statement: the `else` branches of the `if`s it ends, then the statements behind
 pub data Tail : Type 0 where

@@ -1,16 +1,16 @@
 -- A token that is taken leads from trees of what is then expected to trees of what was.
-use mathlib.Core.Path.{◌≡◌, refl, sym, ap, subst, ◌∙◌}
-use mathlib.Core.Bool.{Bool, true, false, cond}
-use mathlib.Core.List.{List, [], ◌∷◌, ◌++◌}
-use mathlib.Core.Logic.{◌⊎◌, inl, inr}
-use Prim.Native.Nat.{ℕ, zero, suc, max, ◌≤◌}
+use mathlib.Core.Path.{◌≡◌, refl, sym, subst, ◌∙◌}
+use mathlib.Core.Bool.{false}
+use mathlib.Core.List.{List, [], ◌∷◌}
+use mathlib.Core.Logic.{inl, inr}
+use Prim.Native.Nat.{ℕ, zero, suc, ◌≤◌}
 use native.Mathlib.Omega.{arith}
 use Rattle.grammar.specs.Kinds.{Kind, Mark, Additive, Plus, Minus, Multiplicative, Times, Divide, Modulo, Relation, Equal, Unequal, Less, Greater, AtMost, AtLeast}
 use Rattle.grammar.specs.Kinds as kind
 use Rattle.grammar.specs.Grammar.{Condition, test, Expression, Factor, Products, Sums, Statement, Statements, Names, Declaration, bare, signed, term, variable, literal, paren, single, by, alone, and, assign, scan, print, when, either, loop, block, none, then, nomore, also, nothing, variables}
 use Rattle.grammar.specs.Grammar as tree
-use Rattle.grammar.specs.Automaton.{End, at_semicolon, at_paren, at_relation, Frame, braces, whole, Symbol, token, identifier, zero_number, expression, factor, products, sums, end, statement, tail, names, body, Step, next, bad, deep, Entry, pick, level, entries, step, end_entries, inside, factor_entries, expression_entries, product_entries, sum_entries, ifs, whiles, blocks, statement_entries, elses, closes, tail_entries}
-use Rattle.grammar.proofs.Forest.{value, carry, Tail, other, last, EndTree, end_onto, Tree, Good, GoodTail, Forest, tail_onto, spell, AllGood, After, spell_after, GoodAfter, Hit, Found, found, Meets}
+use Rattle.grammar.specs.Automaton.{End, at_semicolon, at_paren, at_relation, Frame, braces, whole, Symbol, token, identifier, zero_number, expression, factor, products, sums, end, statement, tail, names, body, next, level, entries, step, end_entries, inside, factor_entries, expression_entries, product_entries, sum_entries, ifs, whiles, blocks, statement_entries, elses, closes, tail_entries}
+use Rattle.grammar.proofs.Forest.{value, carry, Tail, other, last, EndTree, end_onto, Good, GoodTail, Forest, tail_onto, spell, AllGood, After, spell_after, GoodAfter, Hit, Found, found, Meets}
 
 abbrev pub Grown : Symbol → List Symbol → Kind → List Kind → Type 0 → Type 0
 Grown y s k vs G = (f : Forest (y ∷ s)) × (G → (spell (y ∷ s) f ≡ k ∷ vs) × AllGood (y ∷ s) f)

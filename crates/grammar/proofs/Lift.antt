@@ -1,11 +1,10 @@
 -- One more level and one more parenthesis everywhere.
-use mathlib.Core.Path.{◌≡◌, refl, sym, ap, subst, ◌∙◌}
+use mathlib.Core.Path.{◌≡◌, refl, ap, subst, ◌∙◌}
 use mathlib.Core.Bool.{Bool, true, false, cond}
-use mathlib.Core.List.{List, [], ◌∷◌, ◌++◌}
+use mathlib.Core.List.{List, [], ◌∷◌}
 use Prim.Native.Nat.{ℕ, zero, suc}
-use Rattle.grammar.specs.Kinds.{Kind, Token, kinds, same}
-use Rattle.grammar.specs.Automaton.{End, at_semicolon, at_paren, at_relation, Frame, braces, whole, Symbol, token, identifier, zero_number, expression, factor, products, sums, end, statement, tail, names, body, Step, next, bad, deep, Entry, pick, level, end_entries, inside, factor_entries, ifs, whiles, blocks, statement_entries, elses, closes, tail_entries, entries, step, Result, running, refused, go, feed, start}
-use Rattle.grammar.proofs.Runs.{running_not_refused}
+use Rattle.grammar.specs.Kinds.{Kind, Token, same}
+use Rattle.grammar.specs.Automaton.{End, at_semicolon, at_paren, at_relation, Frame, braces, whole, Symbol, token, identifier, zero_number, expression, factor, products, sums, end, statement, tail, names, body, Step, next, bad, deep, Entry, pick, end_entries, inside, factor_entries, ifs, whiles, blocks, statement_entries, elses, tail_entries, entries, step, Result, running, refused, go, feed}
 
 abbrev lift_frame : Frame → Frame
 lift_frame (braces d) = braces (suc d)

@@ -1,8 +1,7 @@
 -- Feeding and trees.
 use mathlib.Core.Path.{◌≡◌, refl, sym, ap, subst, ◌∙◌}
-use mathlib.Core.Bool.{Bool, true, false, cond}
 use mathlib.Core.List.{List, [], ◌∷◌, ◌++◌, append-nil, nil≢cons, cons≢nil, head-eq_of_cons-eq, tail-eq_of_cons-eq}
-use Prim.Native.Nat.{ℕ, zero, suc, max, ◌≤◌}
+use Prim.Native.Nat.{ℕ, suc, max}
 use native.Mathlib.Omega.{arith}
 use Rattle.grammar.specs.Kinds.{Kind, Token, kinds}
 use Rattle.grammar.specs.Kinds as kind
@@ -10,7 +9,7 @@ use Rattle.grammar.specs.Grammar.{ProgramTree, program, Declaration, Statements,
 use Rattle.grammar.specs.Grammar as tree
 use Rattle.grammar.specs.Automaton.{End, at_semicolon, at_paren, at_relation, Symbol, token, identifier, zero_number, expression, factor, products, sums, end, statement, tail, names, body, Step, next, bad, deep, Result, running, refused, go, feed, step, start}
 use Rattle.grammar.specs.Theorems.{Unique, Accepts, Runs}
-use Rattle.grammar.proofs.Forest.{Tail, last, EndTree, Tree, Good, Forest, spell, onto, AllGood, After, spell_after, GoodAfter}
+use Rattle.grammar.proofs.Forest.{last, EndTree, Tree, Good, Forest, spell, AllGood, After, spell_after, GoodAfter}
 use Rattle.grammar.proofs.Grow.{grow}
 use Rattle.grammar.proofs.Cut.{cut}
 

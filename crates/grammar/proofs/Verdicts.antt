@@ -1,13 +1,12 @@
 -- The whole answer.
-use mathlib.Core.Path.{◌≡◌, refl, sym, ap, subst, ◌∙◌}
-use mathlib.Core.List.{List, [], ◌∷◌, ◌++◌, cons≢nil}
-use mathlib.Core.Logic.{◌↔◌}
+use mathlib.Core.Path.{◌≡◌, refl, ap, subst, ◌∙◌}
+use mathlib.Core.List.{List, [], ◌∷◌, cons≢nil}
 use Prim.Native.Nat.{ℕ, suc}
 use Rattle.grammar.specs.Kinds.{Token, kinds}
-use Rattle.grammar.specs.Grammar.{Program, Begins, BrokenAt}
+use Rattle.grammar.specs.Grammar.{Program, Begins}
 use Rattle.grammar.specs.Automaton.{Symbol, Result, running, refused, feed, start, Verdict, good, short, wrong, judged, judge}
 use Rattle.grammar.specs.Theorems.{Judges}
-use Rattle.grammar.proofs.Runs.{accepts, runs, running_not_refused}
+use Rattle.grammar.proofs.Runs.{accepts, runs}
 use Rattle.grammar.proofs.Broken.{refuses}
 
 abbrev IsGood : Verdict → Type 0

@@ -6,7 +6,7 @@
 --   step, feed     one token, and many
 --   start          what is expected of a whole program
 --   judge          the tokens are just what is expected, end too soon, or are refused
-use Rattle.std.specs.Prelude.{Bool, cond, List, [], ◌∷◌, ◌++◌, ℕ, zero, suc}
+use Rattle.std.specs.Prelude.{cond, List, [], ◌∷◌, ℕ, zero, suc}
 use Rattle.grammar.specs.Kinds.{Kind, Mark, Token, Additive, Multiplicative, Relation, same, Head, Int, Main, Scanf, Printf, If, Else, While, Return, Format, LeftParen, RightParen, LeftBrace, RightBrace, Comma, Semicolon, Ampersand, Assign, Equal, Unequal, Less, Greater, AtMost, AtLeast, Plus, Minus, Times, Divide, Modulo}
 use Rattle.grammar.specs.Kinds as kind
 

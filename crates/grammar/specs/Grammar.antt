@@ -11,7 +11,7 @@
 --   Within               a tree within both depths whose every `else` is so
 --   Program, Begins      the tokens of such a tree; tokens that some others complete to such a program
 --   Breaks, BrokenAt     the first token with which the tokens begin no such program, and its refusal's number
-use Rattle.std.specs.Prelude.{◌≡◌, Bool, true, false, List, [], ◌∷◌, ◌++◌, ◌⊎◌, ℕ, zero, suc, max, ◌≤◌}
+use Rattle.std.specs.Prelude.{◌≡◌, Bool, true, false, List, [], ◌∷◌, ◌++◌, ◌⊎◌, ℕ, suc, max, ◌≤◌}
 use Rattle.grammar.specs.Kinds.{Name, Kind, Token, kinds, Additive, Multiplicative, Relation}
 use Rattle.grammar.specs.Kinds as kind
 

@@ -5,11 +5,11 @@
 --   Refuses    it refuses exactly at the first token that breaks a program, with its number
 --   Judges     the three together, as one answer
 --   Places     placing statements goes past just their tokens
-use Rattle.std.specs.Prelude.{◌≡◌, List, [], ◌∷◌, ◌↔◌, ℕ, suc, ◌+◌}
+use Rattle.std.specs.Prelude.{◌≡◌, List, [], ◌↔◌, ℕ, suc}
 use Rattle.grammar.specs.Kinds.{Kind, Token, kinds}
 use Rattle.grammar.specs.Placed.{statements_at}
 use Rattle.grammar.specs.Grammar.{Statements, statements_onto, ProgramTree, yield, Nearest, Program, Begins, BrokenAt}
-use Rattle.grammar.specs.Automaton.{Symbol, Result, running, refused, feed, start, good, short, wrong, judge}
+use Rattle.grammar.specs.Automaton.{Symbol, running, refused, feed, start, good, short, wrong, judge}
 
 -- two trees of the same tokens are one
 abbrev pub Unique : Type 0

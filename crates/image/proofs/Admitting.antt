@@ -1,11 +1,11 @@
 -- One word more of an admission.
-use Rattle.std.proofs.Common.{◌≡◌, ℕ, ◌+◌, ◌<◌, Bool, true, false, cond, ◌&&◌, List, [], ◌∷◌, ◌++◌, map, length, get_or, take, Some, None, Option, sym, refl, ap, ◌∙◌, subst, arith}
+use Rattle.std.proofs.Common.{◌≡◌, ℕ, ◌+◌, ◌<◌, Bool, true, false, ◌&&◌, List, [], ◌∷◌, ◌++◌, length, get_or, take, sym, refl, ap, ◌∙◌, arith}
 use Rattle.std.specs.List.{AllByRecursion as All}
 use Rattle.std.proofs.lemmas.List.{take_more, map_push}
 use Rattle.code.specs.declared.Instruction.{Instruction}
 use Rattle.code.specs.Words.{word_of, InRange}
 use Rattle.image.specs.Bounds.{inside, all_inside}
-use Rattle.image.specs.Admission.{Decodes, FirstOutside, Checked}
+use Rattle.image.specs.Admission.{Decodes, FirstOutside}
 
 pub and_left : (a b : Bool) → (a && b) ≡ true → a ≡ true
 and_left true b e = refl

@@ -3,7 +3,7 @@
 --   holder_means  a holder that keeps some words, over a tape of some meaning
 --   Sent          a list of accepted puts
 --   Moved         words went down from a layer
-use Rattle.std.specs.Prelude.{◌≡◌, ℕ, ◌+◌, ◌-◌, ◌≤◌, min, cond, List, ◌++◌, length, take, ℤ, nat_le}
+use Rattle.std.specs.Prelude.{◌≡◌, ℕ, ◌+◌, ◌-◌, min, cond, List, ◌++◌, length, take, ℤ, nat_le}
 use Rattle.std.proofs.Common.{length-append, arith}
 use Rattle.tapes.specs.declared.output.Reason.TheVariants.{Quota}
 use Rattle.tapes.specs.Meaning.{Meaning, pinch_of, deeper, AtRest, KeptAtRest}

@@ -1,8 +1,8 @@
 -- A token that stands at the front of a text is found.
-use Rattle.std.proofs.Common.{◌≡◌, ℕ, ◌+◌, ◌<◌, ◌≤◌, Bool, true, false, cond, ◌&&◌, ◌||◌, eqb, leb, ◌⊎◌, List, [], ◌∷◌, ◌++◌, length, get_or, take, drop, Some, None, codes, Option, sym, refl, ap, ◌∙◌, subst, inl, inr, ⊎_elim, append_assoc, arith, length-append}
+use Rattle.std.proofs.Common.{◌≡◌, ℕ, ◌+◌, ◌≤◌, true, false, cond, ◌&&◌, eqb, leb, ◌⊎◌, List, [], ◌∷◌, ◌++◌, length, take, Some, None, codes, Option, sym, refl, ap, ◌∙◌, subst, inl, inr, ⊎_elim, append_assoc, arith, length-append}
 use Rattle.std.specs.List.{prefix_len, AllByRecursion as All}
 use Rattle.std.proofs.lemmas.List.{take_at, drop_at}
-use Rattle.std.proofs.lemmas.Bool.{cases_Bool, and_parts, and_from, leb-true, lt-leb, eqb-true, false≢true, true≢false}
+use Rattle.std.proofs.lemmas.Bool.{cases_Bool, and_parts, leb-true, eqb-true, false≢true}
 use Rattle.std.proofs.lemmas.Bool.Decides.{nat_tests}
 use Rattle.syntax.specs.declared.token.Mark.TheVariants.{Head, Assign}
 use Rattle.syntax.specs.declared.token.Relation.TheVariants.{Equal, Less, Greater, AtMost, AtLeast}
@@ -10,7 +10,7 @@ use Rattle.syntax.specs.Tokens as syntax
 use Rattle.syntax.specs.Tokens.{Kind}
 use Rattle.lexer.specs.Bytes.{digit, letter, word_byte, gap, begins}
 use Rattle.lexer.specs.Scan.{Spelling, symbols, word_kind, value_of, zero_first, word_at, number_at, head_end, head_at, symbol_at, scanned}
-use Rattle.lexer.specs.Tokens.{Stops, Listed, HeadToken, WordToken, NumberToken, SymbolToken, Starts, head, word, number, symbol, NoToken}
+use Rattle.lexer.specs.Tokens.{Listed, HeadToken, WordToken, NumberToken, Starts, head, word, number, symbol, NoToken}
 use Rattle.lexer.proofs.Runs.{run_is}
 
 abbrev Finds : Kind → List ℕ → List ℕ → Type 0

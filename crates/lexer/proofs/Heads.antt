@@ -1,8 +1,8 @@
 -- The head, part by part.
-use Rattle.std.proofs.Common.{◌≡◌, ℕ, ◌+◌, Bool, true, false, cond, List, [], ◌∷◌, ◌++◌, drop, Some, None, codes, Option, sym, refl, ap, ◌∙◌}
+use Rattle.std.proofs.Common.{◌≡◌, ℕ, ◌+◌, Bool, true, false, cond, List, drop, Some, None, codes, refl, ap, ◌∙◌}
 use Rattle.std.specs.List.{prefix_len}
 use Rattle.syntax.specs.declared.token.Mark.TheVariants.{Head}
-use Rattle.syntax.specs.Tokens.{Kind, mark}
+use Rattle.syntax.specs.Tokens.{mark}
 use Rattle.lexer.specs.Bytes.{gap, begins}
 use Rattle.lexer.specs.Scan.{head_end, head_at, limited}
 

@@ -1,5 +1,5 @@
 -- A text reads in one way.
-use Rattle.std.proofs.Common.{◌≡◌, ℕ, suc, ◌+◌, ◌-◌, ◌<◌, ◌≤◌, Bool, true, false, cond, eqb, ◌⊎◌, List, [], ◌∷◌, ◌++◌, length, get_or, drop, Some, None, codes, Option, sym, refl, ap, ◌∙◌, subst, inl, inr, append-nil, arith, length-append}
+use Rattle.std.proofs.Common.{◌≡◌, ℕ, suc, ◌+◌, ◌-◌, ◌<◌, true, false, cond, List, [], ◌∷◌, ◌++◌, length, get_or, Some, None, Option, sym, refl, ap, ◌∙◌, subst, append-nil, arith, length-append}
 use Rattle.std.specs.List.{AllByRecursion as All}
 use Rattle.std.proofs.lemmas.List.{drop_at, take-append-drop}
 use Rattle.std.proofs.lemmas.Bool.{false≢true}
@@ -7,10 +7,10 @@ use Rattle.std.proofs.lemmas.Bool.Decides.{nat_tests}
 use Rattle.syntax.specs.Tokens.{Kind}
 use Rattle.lexer.specs.Bytes as bytes
 use Rattle.lexer.specs.Bytes.{digit, letter}
-use Rattle.lexer.specs.Scan.{Spelling, symbols, scanned}
-use Rattle.lexer.specs.Tokens.{Starts, head, word, number, symbol, TokenAt, NoToken}
+use Rattle.lexer.specs.Scan.{symbols, scanned}
+use Rattle.lexer.specs.Tokens.{Starts, head, word, number, symbol, NoToken}
 use Rattle.lexer.specs.Lex.{Lexeme, lexeme, Lexed, good, stray, before, found, lexed, lexing}
-use Rattle.lexer.specs.Reading.{Reads, done, blank, token, StrayAt, Reading, Lexical}
+use Rattle.lexer.specs.Reading.{Reads, done, blank, token, Reading, Lexical}
 use Rattle.lexer.proofs.Complete.{complete, of_listed}
 use Rattle.lexer.proofs.Sound.{Sound, scanned_sound}
 use Rattle.lexer.proofs.Reading.{source_reading}

@@ -1,13 +1,13 @@
 -- The lexemes of a text are those that it reads as.
-use Rattle.std.proofs.Common.{◌≡◌, ℕ, zero, suc, ◌+◌, ◌-◌, ◌<◌, ◌≤◌, Bool, true, false, cond, ltb, List, [], ◌∷◌, ◌++◌, length, take, drop, Some, None, Option, sym, refl, ap, ◌∙◌, subst, add-zero, arith, length-drop}
+use Rattle.std.proofs.Common.{◌≡◌, ℕ, zero, suc, ◌+◌, ◌-◌, ◌<◌, ◌≤◌, Bool, true, false, cond, List, [], ◌∷◌, ◌++◌, length, take, drop, Some, None, Option, sym, refl, ap, ◌∙◌, subst, add-zero, arith, length-drop}
 use Rattle.std.proofs.lemmas.List.{take-append-drop, length-take-le}
 use Rattle.std.proofs.lemmas.Bool.{lt-ltb}
 use Rattle.syntax.specs.Tokens.{Kind}
 use Rattle.lexer.specs.Bytes as bytes
 use Rattle.lexer.specs.Scan.{scanned}
-use Rattle.lexer.specs.Tokens.{Starts, TokenAt, NoToken}
+use Rattle.lexer.specs.Tokens.{TokenAt}
 use Rattle.lexer.specs.Lex.{Lexeme, lexeme, Lexed, good, stray, before, found, lexed}
-use Rattle.lexer.specs.Reading.{Reads, done, blank, token, StrayAt, Reading}
+use Rattle.lexer.specs.Reading.{Reads, done, blank, token, Reading}
 use Rattle.lexer.proofs.Sound.{Sound, scanned_sound}
 use Rattle.lexer.proofs.Complete.{none_complete}
 

@@ -1,15 +1,15 @@
 -- What is found at the front of a text is a token.
-use Rattle.std.proofs.Common.{◌≡◌, ℕ, ◌+◌, ◌-◌, ◌<◌, ◌≤◌, Bool, true, false, cond, ◌&&◌, ◌||◌, eqb, leb, ◌⊎◌, List, [], ◌∷◌, ◌++◌, length, get_or, take, drop, Some, None, codes, Option, sym, refl, ap, ◌∙◌, subst, inl, inr, append_assoc, arith, length-append}
-use Rattle.std.specs.List.{prefix_len, AllByRecursion as All}
+use Rattle.std.proofs.Common.{◌≡◌, ℕ, ◌+◌, ◌<◌, ◌≤◌, Bool, true, false, cond, ◌&&◌, ◌||◌, eqb, leb, List, [], ◌∷◌, ◌++◌, length, get_or, take, drop, Some, None, codes, Option, sym, refl, ap, ◌∙◌, subst, append_assoc, arith, length-append}
+use Rattle.std.specs.List.{prefix_len}
 use Rattle.std.proofs.lemmas.List.{take_at, drop_at, take-append-drop, get_or-take, length-take-le}
 use Rattle.std.proofs.lemmas.List.Sums.{prefix_len-le-length}
-use Rattle.std.proofs.lemmas.Bool.{and_from, le-leb, leb-true, and_parts, eq-eqb, true≢false}
+use Rattle.std.proofs.lemmas.Bool.{and_from, le-leb, eq-eqb, true≢false}
 use Rattle.syntax.specs.declared.token.Mark.TheVariants.{Head}
 use Rattle.syntax.specs.Tokens as syntax
 use Rattle.syntax.specs.Tokens.{Kind}
 use Rattle.lexer.specs.Bytes.{digit, letter, word_byte, gap, begins}
-use Rattle.lexer.specs.Scan.{Spelling, symbols, word_kind, value_of, zero_first, word_at, number_at, head_end, head_at, symbol_at, scanned}
-use Rattle.lexer.specs.Tokens.{Stops, Listed, HeadToken, WordToken, NumberToken, SymbolToken, Starts, head, word, number, symbol, TokenAt}
+use Rattle.lexer.specs.Scan.{symbols, value_of, zero_first, word_at, number_at, head_end, head_at, symbol_at, scanned}
+use Rattle.lexer.specs.Tokens.{Starts, head, word, number, symbol, TokenAt}
 use Rattle.lexer.proofs.Begins.{begins_front}
 use Rattle.lexer.proofs.Runs.{run_all, run_stops, run_some}
 use Rattle.lexer.proofs.Spellings.{FirstIf, first_sound}

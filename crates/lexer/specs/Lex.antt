@@ -21,7 +21,7 @@
 --   Strays            a refusal of the first pass, which asks the second question
 --   Within            a token of the code lies in the source
 --   limited_lexeme    a lexeme with a number cut as the first pass keeps it; limited_all, all of them
-use Rattle.std.specs.Prelude.{◌≡◌, ℕ, ◌+◌, ◌-◌, ◌≤◌, Bool, true, false, cond, List, [], ◌∷◌, ◌++◌, map, length, Some, None, Option, nat_lt}
+use Rattle.std.specs.Prelude.{◌≡◌, ℕ, ◌+◌, ◌-◌, ◌≤◌, Bool, false, cond, List, [], ◌∷◌, ◌++◌, map, length, Some, None, Option, nat_lt}
 use Rattle.syntax.specs.declared.token.Token as coded
 use Rattle.syntax.specs.Tokens.{Kind, mark, name, number, relation, additive, multiplicative, Token, token_of}
 use Rattle.lexer.specs.declared.refusal.Refusal.{Refusal}

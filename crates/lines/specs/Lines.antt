@@ -5,7 +5,7 @@
 --   number_in         the number of a line, read off its bytes
 --   OneLineEach       each number has one line of 12 bytes, its own
 --   Numeral, Padded   what the parts of a reader answer
-use Rattle.std.specs.Prelude.{◌≡◌, ℕ, zero, suc, ◌+◌, ◌-◌, ◌*◌, ◌^◌, ◌<◌, ◌≤◌, Bool, true, false, cond, ◌||◌, List, [], ◌∷◌, ◌++◌, length, take, replicate, ℤ, pos, negsuc, neg_ℤ, Some, None, decimal, Option, ◌==◌, ◌≢◌, nat_lt, slice_index, slice_index_or}
+use Rattle.std.specs.Prelude.{◌≡◌, ℕ, ◌+◌, ◌-◌, ◌*◌, ◌^◌, ◌<◌, ◌≤◌, Bool, false, cond, ◌||◌, List, [], ◌∷◌, ◌++◌, length, take, replicate, ℤ, pos, neg_ℤ, Some, None, decimal, Option, ◌==◌, ◌≢◌, nat_lt, slice_index, slice_index_or}
 use Rattle.std.specs.Int.Signed.{mag}
 use Rattle.std.specs.Fmt.{signed_decimal}
 

@@ -1,15 +1,14 @@
 -- From steps to an advance and its status.
-use Rattle.std.proofs.Common.{◌≡◌, ℕ, suc, ◌+◌, ◌-◌, ◌<◌, ◌≤◌, min, Bool, true, false, cond, eqb, ltb, List, length, ℤ, is_some, Some, None, Option, sym, refl, ap, ◌∙◌, arith}
+use Rattle.std.proofs.Common.{◌≡◌, ℕ, suc, ◌+◌, ◌-◌, ◌<◌, ◌≤◌, min, Bool, true, false, cond, eqb, ltb, List, length, is_some, Some, None, Option, sym, refl, ap, ◌∙◌, arith}
 use Rattle.std.proofs.lemmas.Bool.Decides.{nat_tests}
 use Rattle.code.specs.declared.Instruction.{Instruction}
 use Rattle.code.specs.World.{ArithmeticUnit}
-use Rattle.code.specs.World as world
-use Rattle.code.specs.Machine.{Run, once, moves, advance, status, status_with, fetch}
+use Rattle.code.specs.Machine.{Run, once, moves, advance, status_with, fetch}
 use Rattle.code.proofs.Moving.{once_faulted, moves_stuck, moves_add, moves_suc}
 use Rattle.machine.specs.Numbers.{cause_of, fault_of, status_number}
 use Rattle.machine.specs.Steps.{status_of}
 use Rattle.machine.specs.declared.fault.Fault.{Fault}
-use Rattle.machine.specs.declared.status.Status.TheVariants.{Running, Ended, Faulted, AtLid}
+use Rattle.machine.specs.declared.status.Status.TheVariants.{Running, Ended, AtLid}
 use Rattle.machine.proofs.Fetching.{fetch_past, fetch_some}
 
 pub status_is : (f : Option Fault) (code : List Instruction) (counter steps lid : ℕ) → 1 ≤ counter → steps ≤ lid → status_number (status_of f (length code) counter steps lid) ≡ status_with lid steps (fault_of f) (fetch code counter)

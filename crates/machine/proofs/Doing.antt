@@ -1,14 +1,9 @@
 -- From what the parts of an instruction did to what it did.
-use Rattle.std.proofs.Common.{◌≡◌, ℕ, suc, ◌≤◌, List, [], ◌∷◌, ℤ, Some, None, Ok, Err, Option, Result, sym, refl, ap, ◌∙◌, subst, arith}
-use Rattle.tapes.specs.Meaning.{Meaning, KeptAtRest}
-use Rattle.code.specs.World.{World, Tapes}
-use Rattle.code.specs.World as world
-use Rattle.code.specs.Machine.{Step, moved, faulted, stepped}
-use Rattle.code.specs.Machine as am
-use Rattle.machine.specs.Numbers.{cause_of, fault_of}
-use Rattle.machine.specs.View.{stack_of, world_of, tapes_of, run_of, closed, Done, Stacked}
+use Rattle.std.proofs.Common.{◌≡◌, List, ℤ, Result, sym, subst}
+use Rattle.tapes.specs.Meaning.{Meaning}
+use Rattle.code.specs.Machine.{Step}
+use Rattle.machine.specs.View.{Done}
 use Rattle.machine.specs.declared.fault.Cause.{Cause}
-use Rattle.machine.specs.declared.fault.Fault.{Fault}
 use Rattle.machine.specs.declared.run.Core.{Core}
 use Rattle.machine.specs.declared.run.Memory.{Memory}
 

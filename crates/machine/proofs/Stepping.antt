@@ -1,10 +1,9 @@
 -- What a step comes to, by status and instruction.
-use Rattle.std.proofs.Common.{◌≡◌, ℕ, zero, suc, ◌+◌, ◌-◌, ◌<◌, ◌≤◌, Bool, true, false, cond, ltb, List, length, ℤ, is_ok, Some, None, Ok, Err, Option, Result, sym, refl, ap, ◌∙◌, add-one, arith}
+use Rattle.std.proofs.Common.{◌≡◌, ℕ, suc, ◌+◌, ◌-◌, ◌<◌, ◌≤◌, Bool, true, false, cond, ltb, List, length, ℤ, is_ok, Some, None, Ok, Err, Option, Result, sym, refl, ap, ◌∙◌, add-one, arith}
 use Rattle.std.proofs.lemmas.Bool.Decides.{nat_tests}
-use Rattle.tapes.specs.Meaning.{Meaning, KeptAtRest}
+use Rattle.tapes.specs.Meaning.{Meaning}
 use Rattle.code.specs.declared.Instruction.{Instruction}
 use Rattle.code.specs.World.{ArithmeticUnit}
-use Rattle.code.specs.World as world
 use Rattle.code.specs.Machine.{execute, stepped, once_with, once, moves, fetch}
 use Rattle.code.specs.Machine as am
 use Rattle.machine.specs.Numbers.{cause_of, fault_of}

@@ -2,7 +2,7 @@
 --   status_of  the first that fits: faulted, ended, at the limit, running
 --   Closed     the registers after an instruction's answer
 --   Stepped    a call that says whether it made a step
-use Rattle.std.specs.Prelude.{◌≡◌, ℕ, suc, ◌+◌, ◌-◌, ◌<◌, Bool, true, false, cond, List, ℤ, Some, None, Ok, Err, Option, Result, nat_lt}
+use Rattle.std.specs.Prelude.{◌≡◌, ℕ, ◌+◌, ◌-◌, ◌<◌, Bool, true, false, cond, List, ℤ, Some, None, Ok, Err, Option, Result, nat_lt}
 use Rattle.tapes.specs.Meaning.{Meaning, KeptAtRest}
 use Rattle.code.specs.declared.Instruction.{Instruction}
 use Rattle.code.specs.World.{ArithmeticUnit}

@@ -1,11 +1,11 @@
 -- The published code is the linear code of the tree with the meaning's cells for names.
-use Rattle.std.proofs.Common.{◌≡◌, ℕ, suc, ◌+◌, Bool, true, false, cond, List, [], ◌∷◌, Some, sym, refl, ap, ◌∙◌, arith}
+use Rattle.std.proofs.Common.{◌≡◌, ℕ, suc, ◌+◌, Bool, true, false, cond, List, [], ◌∷◌, Some, refl, ap, ◌∙◌, arith}
 use Rattle.std.specs.Str.{bytes_eq}
 use Rattle.syntax.specs.Tokens.{Name}
 use Rattle.syntax.specs.Trees.{Statements, Program}
 use Rattle.names.specs.Cells.{cell_from}
 use Rattle.translator.specs.Cells.{cells_of_statements}
-use Rattle.translator.specs.Linear.{Code, linear_code}
+use Rattle.translator.specs.Linear.{linear_code}
 use Rattle.translator.specs.Published.{symbols, mksymtab}
 use Rattle.translator.proofs.Labels.{linearised}
 use Rattle.meaning.specs.Meaning.{numbered, cell_by}

@@ -1,5 +1,5 @@
 -- The worked examples, by computation.
-use Rattle.std.proofs.Common.{◌≡◌, ℕ, ◌≤◌, List, [], ◌∷◌, ◌++◌, codes, refl, arith}
+use Rattle.std.proofs.Common.{◌≡◌, ℕ, ◌≤◌, List, codes, refl, arith}
 use Rattle.std.specs.Int.{int_wrap}
 use Rattle.syntax.specs.Tokens.{kinds}
 use Rattle.lexer.specs.Lex.{accepted, answer}

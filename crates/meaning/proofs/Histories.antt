@@ -9,7 +9,7 @@ use Rattle.translator.specs.Linear.{Code, instructions}
 use Rattle.code.proofs.Moving.{moves_add}
 use Rattle.meaning.specs.Meaning.{Outcome, initial, reported, cell_by, meaning}
 use Rattle.meaning.specs.Depth.{depth_of_statements}
-use Rattle.meaning.specs.Promise.{code_of, total, advances, finishing, RunsMeanSources, UnitsAgree, NarrowsInside, Call, Reached, allowed, made, Latest, Modest, Promised, HistoriesMeanSources, HistoriesExist}
+use Rattle.meaning.specs.Promise.{code_of, total, finishing, RunsMeanSources, UnitsAgree, NarrowsInside, Call, Reached, allowed, made, Latest, Modest, Promised, HistoriesMeanSources, HistoriesExist}
 use Rattle.meaning.proofs.Units.{unit_change}
 use Rattle.meaning.proofs.Moves.{advances_moves, moves_steps, advance_moves, going_start}
 use Rattle.meaning.proofs.Reports.{moves_mean}

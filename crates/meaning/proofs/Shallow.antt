@@ -8,7 +8,7 @@ use Rattle.grammar.specs.Grammar as parse
 use Rattle.grammar.specs.Placed.{past, behind_sign, expression_at, sums_at, term_at, products_at, factor_at, condition_at, statement_at, statements_at, declaration_at, program_at}
 use Rattle.grammar.specs.Placed as placed
 use Rattle.meaning.specs.Depth.{depth_of_expression, depth_of_term, depth_of_factor, depth_of_condition, depth_of_statement, depth_of_statements}
-use Rattle.meaning.specs.Sources.{program_of, Spells, OneProgram, Shallow}
+use Rattle.meaning.specs.Sources.{program_of, OneProgram, Shallow}
 use Rattle.grammar.proofs.Runs.{unique}
 
 signed_depth : (g : Sign) (p : ℕ) (t : Term Name) → depth_of_expression (placed.signed g p t) ≡ depth_of_term t

@@ -15,7 +15,7 @@ use Rattle.code.specs.Words.{word_of}
 use Rattle.code.specs.World.{Tapes, Fault, Report, ArithmeticUnit}
 use Rattle.units.specs.Narrowing.{minimum, maximum, strict, wrapping, clamped}
 use Rattle.lexer.specs.Lex.{refused, answer}
-use Rattle.grammar.specs.Grammar.{Expression, expression, bare, signed, Term, term, Factor, variable, literal, paren, single, by, alone, and, test, Statement, assign, scan, print, loop, block, Statements, none, then, nomore, also, nothing, variables, ProgramTree, program}
+use Rattle.grammar.specs.Grammar.{Expression, expression, bare, signed, term, Factor, variable, literal, paren, single, by, alone, and, test, assign, scan, print, loop, block, none, then, nomore, also, nothing, variables, ProgramTree, program}
 use Rattle.grammar.specs.Automaton.{judge, start, wrong}
 use Rattle.translator.specs.Linear.{instructions, places}
 use Rattle.meaning.specs.Meaning.{meaning_of_program, initial, meaning}

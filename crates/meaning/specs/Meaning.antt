@@ -12,7 +12,7 @@
 --   cell_by      the cell of a name by the declaration; 0 for a name that is not declared
 --   reported     what is told of an outcome
 --   meaning      what a program means with so many ticks under a lid: its report
-use Rattle.std.specs.Prelude.{ℕ, zero, suc, ◌-◌, Bool, true, false, cond, not, List, [], ◌∷◌, ◌++◌, replicate, ℤ, pos, negsuc, ◌+ℤ◌, ◌-ℤ◌, ◌*ℤ◌, Some, None, Option, ◌==◌, int_le, int_lt, slice_index_or, slice_set}
+use Rattle.std.specs.Prelude.{ℕ, zero, suc, ◌-◌, Bool, false, cond, not, List, [], ◌∷◌, ◌++◌, replicate, ℤ, pos, negsuc, ◌+ℤ◌, ◌-ℤ◌, ◌*ℤ◌, Some, None, Option, ◌==◌, int_le, int_lt, slice_index_or, slice_set}
 use Rattle.syntax.specs.declared.token.Relation.{Relation}
 use Rattle.syntax.specs.declared.token.Relation.TheVariants.{Equal, Unequal, Less, Greater, AtMost, AtLeast}
 use Rattle.syntax.specs.declared.token.Additive.{Additive}

@@ -1,5 +1,5 @@
 -- What a look-up answers.
-use Rattle.std.proofs.Common.{◌≡◌, ℕ, zero, suc, ◌+◌, ◌-◌, ◌<◌, ◌≤◌, Bool, true, false, cond, List, [], ◌∷◌, length, get_or, drop, is_some, Some, None, Option, sym, refl, ap, ◌∙◌, arith}
+use Rattle.std.proofs.Common.{◌≡◌, ℕ, zero, suc, ◌+◌, ◌-◌, ◌<◌, ◌≤◌, Bool, true, false, cond, List, [], ◌∷◌, length, get_or, drop, Some, None, Option, sym, refl, ap, ◌∙◌, arith}
 use Rattle.std.specs.Str.{bytes_eq}
 use Rattle.std.proofs.lemmas.Slice.Eq.{bytes_eq-Decides}
 use Rattle.std.proofs.lemmas.List.{at_drop_more}
@@ -7,7 +7,7 @@ use Rattle.std.proofs.lemmas.Bool.{true≢false}
 use Rattle.syntax.specs.declared.tree.Name as coded
 use Rattle.syntax.specs.Tokens.{Name}
 use Rattle.syntax.specs.TreeOf.{name_of, declared_of}
-use Rattle.names.specs.Cells.{Entries, name_at, cell_from, cell_of, Cell, Undeclared, Looked}
+use Rattle.names.specs.Cells.{Entries, name_at, cell_from, cell_of, Undeclared, Looked}
 
 -- one more entry, t saying whether it has the name
 pub cell_step : (s : List ℕ) (ns : List coded.Name) (i : ℕ) (d : coded.Name) (x : Name) (t : Bool) → i < length ns → t ≡ bytes_eq x (name_of s (get_or ns i d)) → cell_from (i + 1) (declared_of s (drop i ns)) x ≡ cond t (Some (i + 1)) (cell_from (i + 1 + 1) (declared_of s (drop (i + 1) ns)) x)

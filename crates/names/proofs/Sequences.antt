@@ -1,11 +1,11 @@
 -- Names used one after another.
-use Rattle.std.proofs.Common.{◌≡◌, ℕ, zero, suc, ◌+◌, ◌-◌, ◌<◌, ◌≤◌, Bool, true, false, cond, List, [], ◌∷◌, ◌++◌, length, get_or, is_some, IsErrAnd, Some, None, Ok, Err, Option, Result, sym, refl, ap, ◌∙◌, subst, arith}
+use Rattle.std.proofs.Common.{◌≡◌, ℕ, zero, suc, ◌-◌, ◌<◌, Bool, true, false, cond, [], ◌∷◌, ◌++◌, is_some, IsErrAnd, Some, None, Ok, Err, Option, Result, sym, refl, ap, ◌∙◌, subst, arith}
 use Rattle.std.proofs.lemmas.Result.{err_from_is_err_and}
 use Rattle.std.proofs.lemmas.Bool.{false≢true, true≢false}
 use Rattle.syntax.specs.Tokens.{Name}
 use Rattle.names.specs.declared.refusal.Refusal.{Refusal}
 use Rattle.names.specs.declared.refusal.Refusal.TheVariants as refusal
-use Rattle.names.specs.Cells.{Entries, name_at, place_at, cell_of, Cell, Undeclared, Looked}
+use Rattle.names.specs.Cells.{Entries, name_at, cell_of, Undeclared, Looked}
 use Rattle.syntax.specs.Trees.{Program}
 use Rattle.names.specs.Declares as refuses
 use Rattle.names.specs.Declares.{Declaration}

@@ -5,7 +5,6 @@ use Rattle.std.proofs.lemmas.Bool.{cases_lt}
 use Rattle.syntax.specs.declared.tree.Name as coded
 use Rattle.syntax.specs.Tokens.{Name}
 use Rattle.syntax.specs.TreeOf.{name_of, declared_of}
-use Rattle.names.specs.Cells.{Entries, name_at, place_at}
 
 -- a part that is cut at the end of the text
 pub cut_part : (s : List ℕ) (p l start end : ℕ) → start ≡ min p (length s) → end ≡ min (start + l) (length s) → take (end - start) (drop start s) ≡ take l (drop p s)

@@ -7,7 +7,7 @@
 --   Cell         the c-th entry has the name, and none before it has
 --   Undeclared   no entry has the name
 --   Looked       what a look-up answers
-use Rattle.std.specs.Prelude.{◌≡◌, ℕ, suc, ◌+◌, ◌-◌, ◌<◌, ◌≤◌, Bool, cond, List, [], ◌∷◌, length, Some, None, Option, ◌≢◌, slice_index_or}
+use Rattle.std.specs.Prelude.{◌≡◌, ℕ, ◌+◌, ◌-◌, ◌<◌, ◌≤◌, cond, List, [], ◌∷◌, length, Some, None, Option, ◌≢◌, slice_index_or}
 use Rattle.std.specs.Str.{bytes_eq}
 use Rattle.syntax.specs.Tokens.{Name}
 

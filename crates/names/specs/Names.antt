@@ -2,7 +2,7 @@
 --   Named     at most 64 names are declared, each once, and every name used is declared
 --   Refuses   what a refusal says: the question of its number is the first that is answered no, at its place
 --   Answers   a program is named well, or refused
-use Rattle.std.specs.Prelude.{ℕ, Result, MatchResult}
+use Rattle.std.specs.Prelude.{Result, MatchResult}
 use Rattle.syntax.specs.Tokens.{Name}
 use Rattle.syntax.specs.Trees.{Program}
 use Rattle.names.specs.declared.refusal.Refusal.{Refusal}

@@ -5,7 +5,7 @@
 --   FirstUndeclared   the first name used that is not declared stands at this place
 --   first_undeclared  where that is
 --   outcome           how a check of the names used ends
-use Rattle.std.specs.Prelude.{◌≡◌, ℕ, ◌<◌, cond, List, [], ◌∷◌, ◌++◌, length, is_some, Some, None, Ok, Err, Option, Result}
+use Rattle.std.specs.Prelude.{◌≡◌, ℕ, ◌<◌, cond, [], ◌∷◌, ◌++◌, length, is_some, Some, None, Ok, Err, Option, Result}
 use Rattle.syntax.specs.Tokens.{Name}
 use Rattle.syntax.specs.Trees.{Factor, name, number, paren, Term, one, times, Expression, first, minus, more, Condition, test, Statement, assign, scan, print, when, either, while, block, Statements, none, then}
 use Rattle.names.specs.declared.refusal.Refusal.{Refusal}

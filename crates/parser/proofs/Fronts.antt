@@ -2,7 +2,7 @@
 use Rattle.std.proofs.Common.{◌≡◌, ℕ, suc, ◌-◌, ◌<◌, ◌≤◌, Bool, true, false, List, [], ◌∷◌, length, get_or, take, drop, sym, refl, ap, ◌∙◌, arith, take_all}
 use Rattle.syntax.specs.declared.token.Token as coded
 use Rattle.syntax.specs.declared.token.Kind as coded-kind
-use Rattle.syntax.specs.Tokens.{Token, Kind, kind_of, token_of, tokens_of, mark}
+use Rattle.syntax.specs.Tokens.{Kind, kind_of, token_of, tokens_of, mark}
 use Rattle.grammar.specs.Kinds.{Mark, same}
 use Rattle.grammar.proofs.Forest.{same_sound}
 use Rattle.parser.specs.Reads.{token_at, starts}

@@ -1,5 +1,5 @@
 -- How the trees of what is read join to the tree of an expression.
-use Rattle.std.proofs.Common.{◌≡◌, ℕ, suc, ◌≤◌, List, [], ◌∷◌, Some, None, Option, sym, refl, ap, ◌∙◌, subst, arith}
+use Rattle.std.proofs.Common.{◌≡◌, ℕ, suc, ◌≤◌, List, ◌∷◌, Some, None, Option, sym, ap, ◌∙◌, subst, arith}
 use Rattle.syntax.specs.Trees.{Expression, first, minus, more, Term, one, times, Factor, name, number, paren}
 use Rattle.grammar.specs.Kinds.{Name, Kind, Token, kinds, Additive, Plus, Minus, Multiplicative}
 use Rattle.grammar.specs.Kinds as kind

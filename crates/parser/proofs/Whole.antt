@@ -4,7 +4,7 @@ use Rattle.syntax.specs.declared.token.Token as coded
 use Rattle.syntax.specs.Tokens.{tokens_of}
 use Rattle.grammar.specs.Kinds.{Token, kinds}
 use Rattle.grammar.specs.Grammar.{Program}
-use Rattle.grammar.specs.Automaton.{judge, good, wrong, start}
+use Rattle.grammar.specs.Automaton.{judge, good, start}
 use Rattle.grammar.proofs.Verdicts.{judges}
 use Rattle.parser.specs.declared.refusal.Refusal.{Refusal}
 use Rattle.parser.specs.declared.refusal.Refusal.TheVariants.{TooSoon, Grammar, Depth, NoMemory}

@@ -7,9 +7,8 @@
 --   TakesAssignment, TakesScan, TakesPrint, TakesIf, TakesWhile, TakesBlock
 --                     one of each kind behind its first token
 --   TakesStatements   statements up to the token behind them
-use Rattle.std.specs.Prelude.{◌≡◌, ℕ, suc, ◌<◌, ◌≤◌, true, false, List, [], ◌∷◌, length, Result, OnOk}
+use Rattle.std.specs.Prelude.{◌≡◌, ℕ, ◌<◌, List, [], ◌∷◌, length, Result, OnOk}
 use Rattle.grammar.specs.Kinds.{Token, Mark, Return, LeftParen, RightParen, RightBrace, Comma, Semicolon, Ampersand, Assign, Format, mark}
-use Rattle.grammar.specs.Kinds as kind
 use Rattle.grammar.specs.Automaton.{at_semicolon, Frame, braces, whole, level, guard, Symbol, token, identifier, zero_number, expression, statement, tail}
 use Rattle.parser.specs.declared.reader.Reader.{Reader}
 use Rattle.parser.specs.declared.refusal.Refusal.{Refusal}

@@ -1,5 +1,5 @@
 -- What is written and what is still to be put, together, stay the same as numbers are delivered.
-use Rattle.std.proofs.Common.{◌≡◌, ℕ, suc, ◌+◌, List, [], ◌∷◌, ◌++◌, ℤ, Some, None, Option, sym, refl, ap, ◌∙◌, append_assoc, append-nil, arith}
+use Rattle.std.proofs.Common.{◌≡◌, ℕ, suc, List, [], ◌∷◌, ◌++◌, ℤ, Some, Option, sym, ap, ◌∙◌, append_assoc, append-nil, arith}
 use Rattle.tapes.specs.Meaning.{Meaning}
 use Rattle.relay.specs.declared.relay.Delivery.{Delivery}
 use Rattle.relay.specs.declared.relay.Delivery.TheVariants.{Put, OutOfRange, NoRoom}

@@ -13,7 +13,7 @@ use Rattle.translator.specs.Linear.{Code, instructions, places}
 use Rattle.translator.specs.Written.{words_of, Fits}
 use Rattle.translator.proofs.Inside.{stays_inside}
 use Rattle.image.specs.Bounds.{inside, all_inside}
-use Rattle.image.specs.Admission.{Decodes, FirstNone, FirstOutside, Outside, Refuses}
+use Rattle.image.specs.Admission.{Decodes, FirstNone, FirstOutside, Refuses}
 use Rattle.image.specs.declared.refusals.Refusal.{Refusal}
 use Rattle.image.specs.declared.refusals.Refusal.TheVariants.{TooLong, NotInstruction, OutOfBounds, NoMemory}
 use Rattle.meaning.specs.Meaning.{Outcome, reported, meaning}

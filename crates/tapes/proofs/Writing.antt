@@ -1,5 +1,5 @@
 -- A write at the first unused word is an accepted put.
-use Rattle.std.proofs.Common.{◌≡◌, ℕ, ◌+◌, ◌<◌, ◌≤◌, List, length, take, set, ℤ, sym, refl, ap, ◌∙◌, arith, length-set, rules}
+use Rattle.std.proofs.Common.{ℕ, ◌+◌, ◌<◌, List, length, take, set, ℤ, refl, ap, ◌∙◌, arith, length-set}
 use Rattle.std.proofs.lemmas.List.{take_more_set, length_push}
 use Rattle.tapes.specs.Meaning.{Appended, words_mean}
 

@@ -7,8 +7,8 @@
 --   settled      all at rest
 --   AtRest, KeptAtRest      what is promised of the count at rest between settlings
 --   words_mean   what a word tape means
-use Rattle.std.specs.Prelude.{◌≡◌, ℕ, ◌+◌, ◌-◌, ◌^◌, ◌<◌, ◌≤◌, min, cond, leb, List, [], ◌∷◌, ◌++◌, length, take, ℤ, Ok, Err, Result}
-use Rattle.std.proofs.Common.{length-append, arith}
+use Rattle.std.specs.Prelude.{◌≡◌, ℕ, ◌+◌, ◌-◌, ◌^◌, ◌<◌, ◌≤◌, min, List, [], ◌∷◌, ◌++◌, length, take, ℤ, Ok, Err, Result}
+use Rattle.std.proofs.Common.{arith}
 use Rattle.tapes.specs.declared.output.Pinch.{Pinch}
 use Rattle.tapes.specs.declared.output.Reason.{Reason}
 use Rattle.tapes.specs.declared.output.Reason.TheVariants.{Full, Quota}

@@ -1,6 +1,6 @@
 -- Texts of lines.
-use Rattle.std.proofs.Common.{◌≡◌, ℕ, zero, suc, ◌+◌, ◌-◌, ◌*◌, ◌/◌, ◌^◌, ◌<◌, ◌≤◌, min, true, false, ◌⊎◌, List, [], ◌∷◌, ◌++◌, length, get_or, take, drop, ℤ, pos, is_some, Some, None, Option, sym, refl, ap, ◌∙◌, subst, inl, inr, append_assoc, append-nil, add-one, arith, length-append, length-drop, length-take}
-use Rattle.std.proofs.lemmas.List.{take-take, take_all, take_at, drop_at, drop-take, drop-drop, take-append-drop, length-take-le, length_push, get_or_append_left, get_or_push, take_more}
+use Rattle.std.proofs.Common.{◌≡◌, ℕ, zero, suc, ◌+◌, ◌-◌, ◌*◌, ◌/◌, ◌<◌, ◌≤◌, min, true, false, List, [], ◌∷◌, ◌++◌, length, take, drop, ℤ, pos, is_some, Some, None, Option, sym, refl, ap, ◌∙◌, subst, inl, inr, append_assoc, append-nil, add-one, arith, length-append, length-drop, length-take}
+use Rattle.std.proofs.lemmas.List.{take-take, take_all, take_at, drop_at, drop-take, drop-drop, take-append-drop, length-take-le, length_push, get_or_append_left, get_or_push}
 use Rattle.std.proofs.lemmas.Bool.{cases_lt}
 use Rattle.lines.specs.Lines.{Word, line_of, number_in, Read}
 use Rattle.lines.proofs.Numbers.{number_in_line}

@@ -80,7 +80,7 @@ mod tests {
         assert!(rt; tape.put(4).is_ok());
         assert!(rt; tape.put(-2_147_483_648).is_ok());
         assert_eq!(rt; tape.put(5), Err(Pinch::full()));
-        assert!(rt; tape.text() == b"          4\n-2147483648\n");
+        assert!(rt; tape.text() == b"          4\n-2147483648\n".as_slice());
         Ok(())
     }
 }

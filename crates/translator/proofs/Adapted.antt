@@ -1,8 +1,8 @@
 -- Where the table has each label's number, patching gives the linear code.
-use Rattle.std.proofs.Common.{◌≡◌, ℕ, zero, suc, List, [], ◌∷◌, ◌++◌, sym, refl, ap, ◌∙◌, subst, ap₂}
+use Rattle.std.proofs.Common.{◌≡◌, ℕ, suc, List, [], ◌∷◌, ◌++◌, refl, ap, ◌∙◌, subst, ap₂}
 use Rattle.syntax.specs.Trees.{Condition, Statement, assign, scan, print, when, either, while, block, Statements, none, then}
 use Rattle.code.specs.declared.Instruction.TheVariants.{Store, Jump, JumpIfZero}
-use Rattle.translator.specs.Linear.{Code, past, code_of_expression, code_of_condition, code_of_statement, code_of_statements, linear_code}
+use Rattle.translator.specs.Linear.{Code, past, code_of_expression, code_of_condition, code_of_statement, code_of_statements}
 use Rattle.translator.specs.Published.{Label, Line, label, plain, jump, jump_if_zero, below, Table, find, adapt}
 use Rattle.translator.proofs.Lines.{plain_lines, lines_of_statement, lines_of_statements}
 

@@ -9,12 +9,11 @@ use Rattle.syntax.specs.declared.token.Additive.TheVariants.{Plus, Minus}
 use Rattle.syntax.specs.declared.token.Multiplicative.{Multiplicative}
 use Rattle.syntax.specs.declared.token.Multiplicative.TheVariants.{Times, Divide, Modulo}
 use Rattle.syntax.specs.Tokens.{Name}
-use Rattle.syntax.specs.Trees.{Expression, first, minus, more, Term, one, times, Factor, name, number, paren, Condition, test, Statement, assign, scan, print, when, either, while, block, Statements, none, then, Program}
+use Rattle.syntax.specs.Trees.{Expression, first, minus, more, Term, one, times, Factor, name, number, paren, Condition, test, Statement, assign, scan, print, when, either, while, block, Statements, none, then}
 use Rattle.code.specs.declared.Instruction.{Instruction}
 use Rattle.translator.specs.Cells.{cells_of_expression, cells_of_term, cells_of_factor, cells_of_condition, cells_of_statement, cells_of_statements}
 use Rattle.translator.specs.Linear.{Code, past, code_of_sum, code_of_product, code_of_relation, code_of_expression, code_of_term, code_of_factor, code_of_condition, code_of_statement, code_of_statements, linear_code}
 use Rattle.translator.specs.Published.{mksymtab, trans, linearise}
-use Rattle.names.specs.Names.{Named}
 use Rattle.names.specs.Uses.{uses_in_expression, uses_in_term, uses_in_factor, uses_in_condition, uses_in_statement, uses_in_statements}
 use Rattle.translator.proofs.CellsUsed.{cells_in_expression, cells_in_term, cells_in_factor, cells_in_condition, cells_in_statement, cells_in_statements}
 use Rattle.translator.proofs.Looked.{declared_cell, symbols_below}

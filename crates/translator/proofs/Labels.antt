@@ -1,15 +1,15 @@
 -- The labels of a published translation are all different, so the table tells where each stands.
-use Rattle.std.proofs.Common.{◌≡◌, ℕ, zero, suc, ◌+◌, ◌<◌, ◌≤◌, Bool, true, false, cond, ◌≢◌, List, [], ◌∷◌, ◌++◌, length, Some, None, Option, sym, refl, ap, ◌∙◌, subst, ap₂, arith, length-append}
+use Rattle.std.proofs.Common.{◌≡◌, ℕ, zero, suc, ◌<◌, ◌≤◌, Bool, true, false, cond, ◌≢◌, List, [], ◌∷◌, ◌++◌, length, Some, None, Option, sym, refl, ap, ◌∙◌, subst, arith, length-append}
 use Rattle.std.specs.List.{AllByRecursion as All}
 use Rattle.std.specs.Str.{bytes_eq}
 use Rattle.std.proofs.ByRecursion.{All-append, All-weaker}
 use Rattle.std.proofs.lemmas.Slice.Eq.{bytes_eq-Decides}
-use Rattle.syntax.specs.Trees.{Condition, Statement, assign, scan, print, when, either, while, block, Statements, none, then}
+use Rattle.syntax.specs.Trees.{Statement, assign, scan, print, when, either, while, block, Statements, none, then}
 use Rattle.translator.specs.Cells.{cells_of_statements}
 use Rattle.code.specs.Machine.{nth}
 use Rattle.code.specs.declared.Instruction.TheVariants.{Store}
 use Rattle.translator.specs.Linear.{Code, code_of_expression, code_of_condition, linear_code}
-use Rattle.translator.specs.Published.{Label, Line, label, plain, jump, jump_if_zero, below, blocktrans, Table, table, find, linearise, labels, Absent, Distinct, LabelledOnce, Linearised}
+use Rattle.translator.specs.Published.{Label, Line, label, plain, jump, jump_if_zero, below, Table, table, find, linearise, labels, Absent, Distinct, LabelledOnce, Linearised}
 use Rattle.translator.proofs.Lines.{plain_lines, lines_of_statement, lines_of_statements, lines_statements}
 use Rattle.translator.proofs.Adapted.{Agrees, adapt_statements}
 

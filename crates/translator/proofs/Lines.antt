@@ -1,5 +1,5 @@
 -- The published lines, for a tree with cells for names, by its linear code.
-use Rattle.std.proofs.Common.{◌≡◌, ℕ, zero, suc, List, [], ◌∷◌, ◌++◌, ℤ, pos, negsuc, sym, refl, ap, ◌∙◌, ap₂}
+use Rattle.std.proofs.Common.{◌≡◌, ℕ, suc, List, [], ◌∷◌, ◌++◌, negsuc, sym, refl, ap, ◌∙◌, ap₂}
 use Rattle.syntax.specs.declared.token.Relation.{Relation}
 use Rattle.syntax.specs.declared.token.Relation.TheVariants.{Equal, Unequal, Less, Greater, AtMost, AtLeast}
 use Rattle.syntax.specs.declared.token.Additive.{Additive}

@@ -8,10 +8,10 @@ use Rattle.syntax.specs.declared.token.Relation.TheVariants.{Less, Greater, AtMo
 use Rattle.syntax.specs.declared.token.Additive.TheVariants.{Plus, Minus}
 use Rattle.syntax.specs.declared.token.Multiplicative.TheVariants.{Times, Divide, Modulo}
 use Rattle.syntax.specs.Tokens.{Name}
-use Rattle.syntax.specs.Trees.{Expression, first, minus, more, Term, one, times, Factor, name, number, paren, Condition, test, Statement, assign, scan, print, when, either, while, block, Statements, none, then, Program}
+use Rattle.syntax.specs.Trees.{Expression, first, minus, more, one, times, name, number, paren, test, assign, scan, print, when, either, while, block, none, then, Program}
 use Rattle.code.specs.declared.Instruction.TheVariants as instruction
 use Rattle.code.specs.declared.Instruction.TheVariants.{Literal, Read, Write, Load, Store, Jump, JumpIfZero, Add, Subtract, Multiply}
-use Rattle.translator.specs.Published.{Line, label, plain, jump, jump_if_zero, trans, linearise}
+use Rattle.translator.specs.Published.{label, plain, jump, jump_if_zero, trans, linearise}
 
 abbrev i : Name
 i = 105 ∷ []

@@ -1,4 +1,4 @@
-use Rattle.std.proofs.Common.{◌≡◌, ◌+◌, ◌<◌, ◌≤◌, length, take, ap, ◌∙◌, arith}
+use Rattle.std.proofs.Common.{◌≡◌, ◌<◌, length, take, ap, ◌∙◌, arith}
 use Rattle.disassembly.specs.Text.{position}
 use Rattle.disassembly.proofs.Walks.{newline, another, take_min}
 use Rattle.disassembly.proofs.position_of.Goals as goal

@@ -1,4 +1,4 @@
-use Rattle.std.proofs.Common.{◌≡◌, length, get_or, pos, ◌-ℤ◌, sym, ap, ◌∙◌, subst, arith, w32, w64, to_z, of_z, rules}
+use Rattle.std.proofs.Common.{length, get_or, pos, ◌-ℤ◌, sym, ap, ◌∙◌, subst, arith, w32, w64, to_z, of_z, rules}
 use Rattle.std.proofs.lemmas.Int.{ints}
 use Rattle.lines.specs.Lines.{Read}
 use Rattle.lines.proofs.Reading.{early, line_long, line_end, no_minus, far_minus, minus_is, no_plain, far_plain, plain_is}

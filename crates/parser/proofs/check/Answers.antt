@@ -1,5 +1,4 @@
 use Rattle.std.proofs.Common.{refl}
-use Rattle.parser.specs.Reads.{left}
 use Rattle.parser.proofs.Feeds.{gone}
 use Rattle.parser.proofs.Whole.{answered, all_read, more_left}
 use Rattle.parser.proofs.check.Goals as goal

@@ -1,4 +1,4 @@
-use Rattle.std.proofs.Common.{◌≡◌, ◌+◌, length, take, vec_items, sym, refl, ap, ◌∙◌, subst, arith, take_all, rules}
+use Rattle.std.proofs.Common.{◌≡◌, ◌+◌, length, take, vec_items, sym, subst, arith, take_all}
 use Rattle.image.specs.Admission.{Decodes, Checked}
 use Rattle.image.proofs.Admitting.{decodes_push}
 use Rattle.image.proofs.admission.admit.Goals as goal

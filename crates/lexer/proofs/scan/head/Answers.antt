@@ -1,4 +1,4 @@
-use Rattle.std.proofs.Common.{true, false, take, drop, sym, refl, ap, ◌∙◌}
+use Rattle.std.proofs.Common.{true, false}
 use Rattle.std.proofs.lemmas.List.{take_rest}
 use Rattle.lexer.proofs.Heads.{head_is}
 use Rattle.lexer.proofs.scan.head.Goals as goal

@@ -1,4 +1,4 @@
-use Rattle.std.proofs.Common.{◌≡◌, ◌++◌, sym, ap, ◌∙◌}
+use Rattle.std.proofs.Common.{◌++◌, sym, ap, ◌∙◌}
 use Rattle.syntax.specs.TreeOf.{declared_of, factor_of, term_of, expression_of}
 use Rattle.names.specs.Uses.{uses_in_factor, uses_in_term, uses_in_expression}
 use Rattle.names.proofs.Sequences.{go_on, stop}

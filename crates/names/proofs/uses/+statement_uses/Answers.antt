@@ -1,4 +1,4 @@
-use Rattle.std.proofs.Common.{◌≡◌, ◌++◌, sym, refl, ap, ◌∙◌}
+use Rattle.std.proofs.Common.{◌++◌, sym, ap, ◌∙◌}
 use Rattle.syntax.specs.TreeOf.{declared_of, condition_of, statement_of, statements_of}
 use Rattle.names.specs.Uses.{uses_in_condition, uses_in_statement, uses_in_statements}
 use Rattle.names.proofs.Sequences.{go_on, stop}

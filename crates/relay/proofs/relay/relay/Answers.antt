@@ -1,6 +1,5 @@
-use Rattle.std.proofs.Common.{◌≡◌, ◌∷◌, sym, ap, ◌∙◌, w32, SFits, rules}
+use Rattle.std.proofs.Common.{sym, ap, ◌∙◌, w32, SFits, rules}
 use Rattle.std.proofs.lemmas.Int.{to_z-of_z}
-use Rattle.relay.specs.Relaying.{Delivered}
 use Rattle.relay.proofs.Delivering.{whole, delivered}
 use Rattle.relay.proofs.relay.relay.Goals as goal
 

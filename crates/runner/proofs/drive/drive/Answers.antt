@@ -1,4 +1,4 @@
-use Rattle.std.proofs.Common.{◌≡◌, ℕ, ◌+◌, List, [], length, get_or, take, vec_items, sym, refl, ap, ◌∙◌, subst, arith, take_all, Bor}
+use Rattle.std.proofs.Common.{◌≡◌, ℕ, List, [], length, take, vec_items, sym, refl, ap, ◌∙◌, subst, arith, take_all, Bor}
 use Rattle.image.specs.declared.admitted.Image.{Image}
 use Rattle.code.specs.World.{Report}
 use Rattle.code.specs.Machine as am

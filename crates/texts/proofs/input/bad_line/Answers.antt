@@ -1,6 +1,6 @@
-use Rattle.std.proofs.Common.{◌≡◌, ◌+◌, sym, ap, subst, arith, rules}
+use Rattle.std.proofs.Common.{◌+◌, sym, subst}
 use Rattle.texts.specs.Texts.{FirstBad}
-use Rattle.texts.proofs.Lines.{Chunked, chunk_bad, chunk_more, chunk_all}
+use Rattle.texts.proofs.Lines.{chunk_bad, chunk_more, chunk_all}
 use Rattle.texts.proofs.input.bad_line.Goals as goal
 
 pub returns-then-is_none : goal.returns-then-is_none

@@ -1,4 +1,4 @@
-use Rattle.std.proofs.Common.{◌++◌, vec_items, sym, refl, ap, ◌∙◌}
+use Rattle.std.proofs.Common.{◌++◌, vec_items, sym, ap, ◌∙◌}
 use Rattle.translator.specs.Emitted.{factor_code, term_code, expression_code}
 use Rattle.translator.proofs.Appended.{twice, joined}
 use Rattle.translator.proofs.expressions.+expression_emitters.Goals as goal

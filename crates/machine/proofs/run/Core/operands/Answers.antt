@@ -1,4 +1,4 @@
-use Rattle.std.proofs.Common.{◌≡◌, ◌-◌, get_or, pos, refl, arith, w32, SFits, rules}
+use Rattle.std.proofs.Common.{◌-◌, get_or, pos, refl, arith, w32, SFits, rules}
 use Rattle.machine.proofs.Stacks.{length_tops, two, widened}
 use Rattle.machine.proofs.run.Core.operands.Goals as goal
 

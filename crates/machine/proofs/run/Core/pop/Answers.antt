@@ -1,4 +1,4 @@
-use Rattle.std.proofs.Common.{◌≡◌, ◌-◌, ◌≤◌, get_or, pos, refl, arith, w32, SFits, rules}
+use Rattle.std.proofs.Common.{◌-◌, ◌≤◌, get_or, pos, refl, arith, w32, SFits, rules}
 use Rattle.std.proofs.lemmas.Int.{to_z-of_z}
 use Rattle.machine.proofs.Stacks.{top_word, drop_one}
 use Rattle.machine.proofs.run.Core.pop.Goals as goal

@@ -1,10 +1,9 @@
-use Rattle.std.proofs.Common.{◌≡◌, ℕ, ◌+◌, ◌-◌, ◌≤◌, min, length, vec_items, sym, refl, ap, ◌∙◌, arith, Bor}
-use Rattle.code.specs.Machine.{moves, advance, status_with, fetch}
+use Rattle.std.proofs.Common.{◌≡◌, ◌+◌, ◌-◌, min, vec_items, sym, refl, ap, ◌∙◌, arith, Bor}
+use Rattle.code.specs.Machine.{advance, status_with, fetch}
 use Rattle.image.specs.declared.admitted.Image.{Image}
 use Rattle.machine.specs.Numbers.{fault_of, status_number}
 use Rattle.machine.specs.View.{unit_of}
 use Rattle.machine.specs.Runs.{code_of, state_of}
-use Rattle.machine.specs.Steps.{Made, Halted}
 use Rattle.machine.proofs.Stepping.{made_of, halted_of}
 use Rattle.machine.proofs.Advancing.{status_is, faulted_stays, faulted_status, step_more, advance_is}
 use Rattle.machine.proofs.run.Run.advance.Goals as goal

@@ -1,4 +1,4 @@
-use Rattle.std.proofs.Common.{◌≡◌, ℕ, refl, ap, ◌∙◌, arith}
+use Rattle.std.proofs.Common.{ℕ, refl, ap, ◌∙◌}
 use Rattle.tapes.specs.Meaning.{Meaning}
 use Rattle.code.specs.World.{Report}
 use Rattle.code.specs.Machine.{status_with, fetch, placed}

@@ -1,9 +1,7 @@
-use Rattle.std.proofs.Common.{◌≡◌, ◌∷◌, length, refl, ap, ◌∙◌, arith}
+use Rattle.std.proofs.Common.{◌∷◌, length, refl, ap, ◌∙◌, arith}
 use Rattle.std.proofs.lemmas.Result.{IfOk-from_err}
 use Rattle.syntax.specs.declared.token.Kind.TheVariants.{Mark}
 use Rattle.syntax.specs.TreeOf.{expression_of, term_of}
-use Rattle.grammar.specs.Grammar.{factor_onto}
-use Rattle.grammar.specs.Placed.{factor_at}
 use Rattle.grammar.specs.Automaton.{at_paren, factor, products}
 use Rattle.parser.specs.Reads.{ahead}
 use Rattle.parser.proofs.Fronts.{read_as}

@@ -1,11 +1,10 @@
-use Rattle.std.proofs.Common.{◌≡◌, [], ◌∷◌, length, refl, ap, ◌∙◌, arith}
+use Rattle.std.proofs.Common.{[], ◌∷◌, length, refl, ap, ◌∙◌, arith}
 use Rattle.std.proofs.lemmas.Result.{IfOk-from_err}
-use Rattle.grammar.specs.Kinds.{Assign, RightParen, Semicolon}
-use Rattle.grammar.specs.Automaton.{at_semicolon, at_paren, at_relation, braces, judge, token, identifier, expression, statement, tail}
+use Rattle.grammar.specs.Kinds.{Assign}
+use Rattle.grammar.specs.Automaton.{at_semicolon, braces, judge, token, expression, statement, tail}
 use Rattle.parser.specs.Reads.{ahead}
-use Rattle.parser.specs.Readers.{tokens}
 use Rattle.parser.proofs.Fronts.{read_as}
-use Rattle.parser.proofs.Feeds.{gone, onward, fewer_behind, less_behind, fewer_of_less, taken, at_paren_lem, at_semicolon_lem, if_read, while_read, block_read, else_read, no_else, end_read, no_end, keyword_is}
+use Rattle.parser.proofs.Feeds.{gone, onward, fewer_behind, less_behind, fewer_of_less, taken, if_read, while_read, block_read, else_read, no_else, end_read, no_end, keyword_is}
 use Rattle.parser.proofs.reader.Reader.+statement_readers.Goals as goal
 
 pub statement-returns-in-Name : goal.statement-returns-in-Name

@@ -1,11 +1,8 @@
-use Rattle.std.proofs.Common.{◌≡◌, [], ◌∷◌, length, refl, ap, ◌∙◌, arith}
+use Rattle.std.proofs.Common.{[], ◌∷◌, refl, ◌∙◌, arith}
 use Rattle.std.proofs.lemmas.Result.{IfOk-from_err}
-use Rattle.grammar.specs.Kinds.{Assign, RightParen, Semicolon, RightBrace}
-use Rattle.grammar.specs.Automaton.{at_semicolon, at_paren, at_relation, braces, whole, names, body, zero_number, judge, token, identifier, expression, statement, tail}
+use Rattle.grammar.specs.Automaton.{whole, names, body, identifier, tail}
 use Rattle.parser.specs.Reads.{ahead}
-use Rattle.parser.specs.Readers.{tokens}
-use Rattle.parser.proofs.Fronts.{read_as}
-use Rattle.parser.proofs.Feeds.{gone, onward, fewer_behind, less_behind, taken, at_paren_lem, at_semicolon_lem, if_read, while_read, block_read, else_read, no_else, end_read, no_end, keyword_is, no_int, no_comma}
+use Rattle.parser.proofs.Feeds.{gone, onward, fewer_behind, taken, no_int}
 use Rattle.parser.proofs.reader.Reader.declaration.Goals as goal
 
 pub returns-in_default : goal.returns-in_default

@@ -1,4 +1,3 @@
-use Rattle.std.proofs.Common.{◌∷◌}
 use Rattle.grammar.specs.Automaton.{token}
 use Rattle.parser.proofs.Feeds.{ended}
 use Rattle.parser.proofs.reader.Reader.expect.Goals as goal

@@ -1,4 +1,4 @@
-use Rattle.std.proofs.Common.{◌<◌, length, arith, rules}
+use Rattle.std.proofs.Common.{rules}
 use Rattle.std.proofs.lemmas.List.{drop_all, drop_more}
 use Rattle.tapes.proofs.words.WordInputInputTape.take.Goals as goal
 

@@ -1,4 +1,4 @@
-use Rattle.std.proofs.Common.{◌≡◌, ◌+◌, ◌-◌, ◌<◌, ◌≤◌, [], ◌∷◌, length, take, drop, vec_items, vec_len, sym, ap, ◌∙◌, subst, arith, length-drop, w32, SFits, rules}
+use Rattle.std.proofs.Common.{◌≡◌, ◌+◌, ◌-◌, ◌<◌, ◌≤◌, ◌∷◌, length, take, drop, vec_items, sym, ap, ◌∙◌, subst, arith, length-drop, w32, SFits, rules}
 use Rattle.std.proofs.lemmas.List.{drop-drop}
 use Rattle.std.proofs.lemmas.Int.{to_z-of_z}
 use Rattle.lines.specs.Lines.{number_in}

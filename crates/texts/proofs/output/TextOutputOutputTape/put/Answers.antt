@@ -1,4 +1,4 @@
-use Rattle.std.proofs.Common.{◌≡◌, ◌*◌, ◌++◌, length, take, vec_items, vec_len, ap, ◌∙◌, arith, w32, rules}
+use Rattle.std.proofs.Common.{◌≡◌, ◌*◌, ◌++◌, length, take, vec_items, ap, ◌∙◌, arith, w32, rules}
 use Rattle.std.proofs.lemmas.Int.{to_z-of_z}
 use Rattle.lines.specs.Lines.{Word, line_of}
 use Rattle.texts.proofs.Lines.{written_over, put_text, put_appends}

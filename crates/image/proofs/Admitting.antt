@@ -1,6 +1,6 @@
 -- One word more of an admission.
 use Rattle.std.proofs.Common.{◌≡◌, ℕ, ◌+◌, ◌<◌, Bool, true, false, ◌&&◌, List, [], ◌∷◌, ◌++◌, length, get_or, take, sym, refl, ap, ◌∙◌, arith}
-use Rattle.std.specs.List.{AllByRecursion as All}
+use Rattle.std.specs.List.{AllByRecursion}
 use Rattle.std.proofs.lemmas.List.{take_more, map_push}
 use Rattle.code.specs.declared.Instruction.{Instruction}
 use Rattle.code.specs.Words.{word_of, InRange}
@@ -15,7 +15,7 @@ pub and_right : (a b : Bool) → (a && b) ≡ true → b ≡ true
 and_right true b e = e
 and_right false b e = let z : ◌≡◌ {A = ℕ} 0 1 = cc in absurd (omega arith)
 
-all_push : (is : List Instruction) (i : Instruction) → All InRange is → InRange i → All InRange (is ++ i ∷ [])
+all_push : (is : List Instruction) (i : Instruction) → AllByRecursion InRange is → InRange i → AllByRecursion InRange (is ++ i ∷ [])
 all_push [] i a h = (h, tt)
 all_push (j ∷ js) i a h = (a.0, all_push js i a.1 h)
 

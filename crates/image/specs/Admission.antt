@@ -7,7 +7,7 @@
 --   Admitted        the instructions of an image for these words
 --   Refuses         what each refusal says of the words
 use Rattle.std.specs.Prelude.{◌≡◌, ℕ, ◌+◌, ◌-◌, ◌<◌, ◌≤◌, true, false, List, ◌∷◌, ◌++◌, map, length, take, Some, None, Option, ◌≢◌, slice_index}
-use Rattle.std.specs.List.{AllByRecursion as All}
+use Rattle.std.specs.List.{AllByRecursion}
 use Rattle.code.specs.declared.Instruction.{Instruction}
 use Rattle.code.specs.Words.{word_of, InRange}
 use Rattle.image.specs.Bounds.{inside, all_inside}
@@ -16,7 +16,7 @@ use Rattle.image.specs.declared.refusals.Refusal.TheVariants.{TooLong, NotInstru
 
 pub record Decodes (ws : List ℕ) (is : List Instruction) : Type 0 where
   pub words : map word_of is ≡ ws
-  pub ranges : All InRange is
+  pub ranges : AllByRecursion InRange is
 
 pub record FirstNone (ws : List ℕ) (k : ℕ) : Type 0 where
   pub counted : 1 ≤ k

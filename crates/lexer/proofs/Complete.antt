@@ -1,6 +1,6 @@
 -- A token that stands at the front of a text is found.
 use Rattle.std.proofs.Common.{◌≡◌, ℕ, ◌+◌, ◌≤◌, true, false, cond, ◌&&◌, eqb, leb, ◌⊎◌, List, [], ◌∷◌, ◌++◌, length, take, Some, None, codes, Option, sym, refl, ap, ◌∙◌, subst, inl, inr, ⊎_elim, append_assoc, arith, length-append}
-use Rattle.std.specs.List.{prefix_len, AllByRecursion as All}
+use Rattle.std.specs.List.{prefix_len, AllByRecursion}
 use Rattle.std.proofs.lemmas.List.{take_at, drop_at}
 use Rattle.std.proofs.lemmas.Bool.{cases_Bool, and_parts, leb-true, eqb-true, false≢true}
 use Rattle.std.proofs.lemmas.Bool.Decides.{nat_tests}
@@ -44,7 +44,7 @@ number_complete k (b ∷ w) rest t =
         let zero = and_parts (eqb b 48) true parts.1 in
         absurd (t.first (omega (arith, n, leb-true 2 (prefix_len digit (b ∷ (w ++ rest))) parts.0)) (eqb-true b 48 zero.0))
 
-head_at_lem : (gaps rest : List ℕ) → All (λ b. gap b ≡ true) gaps → Finds (syntax.mark Head) (codes "#include" ++ (gaps ++ codes "<stdio.h>")) rest
+head_at_lem : (gaps rest : List ℕ) → AllByRecursion (λ b. gap b ≡ true) gaps → Finds (syntax.mark Head) (codes "#include" ++ (gaps ++ codes "<stdio.h>")) rest
 head_at_lem gaps rest all =
     let file : List ℕ = codes "<stdio.h>" ++ rest in
     let n : prefix_len gap (gaps ++ file) ≡ length gaps = run_is gap gaps file all refl in
@@ -71,7 +71,7 @@ no_equals rest h = ⊎_elim (λ e. let two = h e in absurd (omega arith)) (λ e.
 one_byte : (one two : Kind) (rest : List ℕ) → (begins (codes "=") rest ≡ true → 2 ≤ 1) → cond {A = Option (Kind × ℕ)} (begins (codes "=") rest) (Some (two, 2)) (Some (one, 1)) ≡ Some (one, 1)
 one_byte one two rest h = ap (λ t. cond {A = Option (Kind × ℕ)} t (Some (two, 2)) (Some (one, 1))) (no_equals rest h)
 
-each_symbol : All SymbolFound symbols
+each_symbol : AllByRecursion SymbolFound symbols
 each_symbol = (
   λ rest h. refl,
   (
@@ -131,7 +131,7 @@ each_symbol = (
   ),
 )
 
-pub of_listed : (P : Spelling → Type 0) (ss : List Spelling) (s : Spelling) → All P ss → Listed s ss → P s
+pub of_listed : (P : Spelling → Type 0) (ss : List Spelling) (s : Spelling) → AllByRecursion P ss → Listed s ss → P s
 of_listed P [] s h l = absurd l
 of_listed P (t ∷ ss) s h (inl e) = subst P (sym e) h.0
 of_listed P (t ∷ ss) s h (inr l) = of_listed P ss s h.1 l

@@ -1,6 +1,6 @@
 -- Numbers cut above the greatest: where none is too large, nothing was cut.
 use Rattle.std.proofs.Common.{◌≡◌, ℕ, ◌+◌, ◌<◌, ◌≤◌, min, Bool, true, false, cond, List, [], ◌∷◌, map, length, get_or, drop, Some, None, Option, sym, refl, ap, ◌∙◌, subst, arith, length-append}
-use Rattle.std.specs.List.{AllByRecursion as All}
+use Rattle.std.specs.List.{AllByRecursion}
 use Rattle.std.proofs.lemmas.Bool.{le-ltb, lt-ltb, ltb-false}
 use Rattle.std.proofs.lemmas.Bool.Decides.{nat_tests}
 use Rattle.std.proofs.ByRecursion.{All-map, All-get_or}
@@ -55,17 +55,17 @@ tokens_of_lem s [] = refl
 tokens_of_lem s (t ∷ ts) = ap (λ us. token_of s t ∷ us) (tokens_of_lem s ts)
 
 -- the first of the tokens that are left, t saying whether it is too large
-pub large_step : (s : List ℕ) (ts : List coded.Token) (i : ℕ) (d : coded.Token) (t : Bool) → i < length ts → All (Within s) ts → (Within s (get_or ts i d) → t ≡ too_large (token_of s (get_or ts i d)).kind) → first_too_large (tokens_of s (drop i ts)) ≡ cond t (Some (get_or ts i d).place) (first_too_large (tokens_of s (drop (i + 1) ts)))
+pub large_step : (s : List ℕ) (ts : List coded.Token) (i : ℕ) (d : coded.Token) (t : Bool) → i < length ts → AllByRecursion (Within s) ts → (Within s (get_or ts i d) → t ≡ too_large (token_of s (get_or ts i d)).kind) → first_too_large (tokens_of s (drop i ts)) ≡ cond t (Some (get_or ts i d).place) (first_too_large (tokens_of s (drop (i + 1) ts)))
 large_step s ts i d t h all is =
     at_drop_more (λ us. first_too_large (tokens_of s us)) ts i d h
     ∙ ap (λ b. cond b (Some (get_or ts i d).place) (first_too_large (tokens_of s (drop (i + 1) ts)))) (sym (is (All-get_or (Within s) ts i d h all)))
 
-reads_within : {q : ℕ} {rest : List ℕ} {p : ℕ} {bs : List ℕ} {ls : List Lexeme} (n : ℕ) → p + length bs ≤ n → Reads q rest p bs ls → All (λ l. l.token.place + l.length ≤ n) ls
+reads_within : {q : ℕ} {rest : List ℕ} {p : ℕ} {bs : List ℕ} {ls : List Lexeme} (n : ℕ) → p + length bs ≤ n → Reads q rest p bs ls → AllByRecursion (λ l. l.token.place + l.length ≤ n) ls
 reads_within n h done = tt
 reads_within n h (blank {p} {b} {bs} {ls} e r) = reads_within n (omega arith) r
 reads_within n h (token {p} {k} {w} {bs} {ls} s r) = (omega (arith, length-append w bs), reads_within n (omega (arith, length-append w bs)) r)
 
-all_unmap : {X Y : Type 0} (P : Y → Type 0) (f : X → Y) (xs : List X) → All P (map f xs) → All (λ x. P (f x)) xs
+all_unmap : {X Y : Type 0} (P : Y → Type 0) (f : X → Y) (xs : List X) → AllByRecursion P (map f xs) → AllByRecursion (λ x. P (f x)) xs
 all_unmap P f [] h = tt
 all_unmap P f (x ∷ xs) h = (h.0, all_unmap P f xs h.1)
 
@@ -74,15 +74,15 @@ module _ (s : List ℕ) (ts : List coded.Token) where
   same_cut : (ls : List Lexeme) → limited_all (good ls) ≡ good (lexemes_of s ts) → map limited_lexeme ls ≡ lexemes_of s ts
   same_cut ls e = cc
 
-  lexed_within : (r : Lexed) → Reading 0 s r → limited_all r ≡ good (lexemes_of s ts) → All (Within s) ts
+  lexed_within : (r : Lexed) → Reading 0 s r → limited_all r ≡ good (lexemes_of s ts) → AllByRecursion (Within s) ts
   lexed_within (good ls) reads e =
       let n : ℕ = length s in
-      let cut : All (λ l. l.token.place + l.length ≤ length s) (map limited_lexeme ls) = All-map (λ l. l.token.place + l.length ≤ length s) limited_lexeme ls (reads_within (length s) (omega arith) reads) in
-      let P : List Lexeme → Type 0 = λ ms. All (λ l. l.token.place + l.length ≤ length s) ms in
+      let cut : AllByRecursion (λ l. l.token.place + l.length ≤ length s) (map limited_lexeme ls) = All-map (λ l. l.token.place + l.length ≤ length s) limited_lexeme ls (reads_within (length s) (omega arith) reads) in
+      let P : List Lexeme → Type 0 = λ ms. AllByRecursion (λ l. l.token.place + l.length ≤ length s) ms in
       all_unmap (λ l. l.token.place + l.length ≤ length s) (lexeme_of s) ts (subst P (same_cut ls e) cut)
   lexed_within (stray p) reads e = absurd (let z : ◌≡◌ {A = ℕ} 0 1 = cc in omega arith)
 
-  pub all_within : limited_all (lexing s) ≡ good (lexemes_of s ts) → All (Within s) ts
+  pub all_within : limited_all (lexing s) ≡ good (lexemes_of s ts) → AllByRecursion (Within s) ts
   all_within e = lexed_within (lexing s) (source_reading s) e
 
   first_is : (ls : List Lexeme) → limited_all (good ls) ≡ good (lexemes_of s ts) → first_too_large (tokens_of s ts) ≡ first_too_large (tokens ls)

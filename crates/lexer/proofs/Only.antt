@@ -1,6 +1,6 @@
 -- A text reads in one way.
 use Rattle.std.proofs.Common.{◌≡◌, ℕ, suc, ◌+◌, ◌-◌, ◌<◌, true, false, cond, List, [], ◌∷◌, ◌++◌, length, get_or, Some, None, Option, sym, refl, ap, ◌∙◌, subst, append-nil, arith, length-append}
-use Rattle.std.specs.List.{AllByRecursion as All}
+use Rattle.std.specs.List.{AllByRecursion}
 use Rattle.std.proofs.lemmas.List.{drop_at, take-append-drop}
 use Rattle.std.proofs.lemmas.Bool.{false≢true}
 use Rattle.std.proofs.lemmas.Bool.Decides.{nat_tests}
@@ -24,11 +24,11 @@ letter_begun : (w : List ℕ) → letter (get_or w 0 0) ≡ true → Begun w
 letter_begun [] e = absurd (false≢true e)
 letter_begun (b ∷ w) e = (b, w, refl, grind (arith, nat_tests))
 
-digit_begun : (w : List ℕ) → 0 < length w → All (λ b. digit b ≡ true) w → Begun w
+digit_begun : (w : List ℕ) → 0 < length w → AllByRecursion (λ b. digit b ≡ true) w → Begun w
 digit_begun [] some all = absurd (omega arith)
 digit_begun (b ∷ w) some all = let e : digit b ≡ true = all.0 in (b, w, refl, grind (arith, nat_tests))
 
-begun_each : All (λ s. Begun s.0) symbols
+begun_each : AllByRecursion (λ s. Begun s.0) symbols
 begun_each = (
   (_, _, refl, refl),
   (

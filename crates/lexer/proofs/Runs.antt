@@ -1,14 +1,14 @@
 -- Runs of bytes of one sort.
 use Rattle.std.proofs.Common.{◌≡◌, ℕ, ◌+◌, ◌<◌, Bool, true, false, cond, List, [], ◌∷◌, ◌++◌, length, take, drop, refl, ap, ◌∙◌, one-add, arith}
-use Rattle.std.specs.List.{prefix_len, AllByRecursion as All}
+use Rattle.std.specs.List.{prefix_len, AllByRecursion}
 use Rattle.lexer.specs.Tokens.{Stops}
 
-run_all_step : (p : ℕ → Bool) (b : ℕ) (bs : List ℕ) (n : ℕ) (t : Bool) → p b ≡ t → All (λ b. p b ≡ true) (take n bs) → All (λ b. p b ≡ true) (take (cond t (1 + n) 0) (b ∷ bs))
+run_all_step : (p : ℕ → Bool) (b : ℕ) (bs : List ℕ) (n : ℕ) (t : Bool) → p b ≡ t → AllByRecursion (λ b. p b ≡ true) (take n bs) → AllByRecursion (λ b. p b ≡ true) (take (cond t (1 + n) 0) (b ∷ bs))
 run_all_step p b bs n true e h = rw one-add (e, h)
 run_all_step p b bs n false e h = tt
 
 -- every byte of a run is of the sort
-pub run_all : (p : ℕ → Bool) (bs : List ℕ) → All (λ b. p b ≡ true) (take (prefix_len p bs) bs)
+pub run_all : (p : ℕ → Bool) (bs : List ℕ) → AllByRecursion (λ b. p b ≡ true) (take (prefix_len p bs) bs)
 run_all p [] = tt
 run_all p (b ∷ bs) = run_all_step p b bs (prefix_len p bs) (p b) refl (run_all p bs)
 
@@ -29,7 +29,7 @@ run_none p [] h = refl
 run_none p (b ∷ bs) h = ap (λ t. cond t (1 + prefix_len p bs) 0) h
 
 -- bytes of the sort before none of it are the run
-pub run_is : (p : ℕ → Bool) (w rest : List ℕ) → All (λ b. p b ≡ true) w → Stops p rest → prefix_len p (w ++ rest) ≡ length w
+pub run_is : (p : ℕ → Bool) (w rest : List ℕ) → AllByRecursion (λ b. p b ≡ true) w → Stops p rest → prefix_len p (w ++ rest) ≡ length w
 run_is p [] rest all stops = run_none p rest stops
 run_is p (b ∷ w) rest all stops =
     ap (λ t. cond t (1 + prefix_len p (w ++ rest)) 0) all.0 ∙ ap (λ n. 1 + n) (run_is p w rest all.1 stops) ∙ one-add (length w)

@@ -9,7 +9,7 @@
 --   TokenAt       such a token stands at the front of a text, with this length
 --   NoToken       none does
 use Rattle.std.specs.Prelude.{◌≡◌, ℕ, ◌<◌, ◌≤◌, Bool, true, false, ◌⊎◌, List, [], ◌∷◌, ◌++◌, length, take, drop, codes, ◌≢◌, slice_index}
-use Rattle.std.specs.List.{AllByRecursion as All}
+use Rattle.std.specs.List.{AllByRecursion}
 use Rattle.syntax.specs.declared.token.Mark.TheVariants as marks
 use Rattle.syntax.specs.Tokens as syntax
 use Rattle.syntax.specs.Tokens.{Kind}
@@ -27,19 +27,19 @@ Listed s (t ∷ ts) = (s ≡ t) ⊎ Listed s ts
 pub record HeadToken (k : Kind) (w : List ℕ) : Type 0 where
   pub gaps : List ℕ
   pub kind : k ≡ syntax.mark marks.Head
-  pub all : All (λ b. gap b ≡ true) gaps
+  pub all : AllByRecursion (λ b. gap b ≡ true) gaps
   pub bytes : w ≡ codes "#include" ++ (gaps ++ codes "<stdio.h>")
 
 pub record WordToken (k : Kind) (w rest : List ℕ) : Type 0 where
   pub kind : k ≡ word_kind w
   pub first : letter (slice_index w 0) ≡ true
-  pub all : All (λ b. word_byte b ≡ true) w
+  pub all : AllByRecursion (λ b. word_byte b ≡ true) w
   pub full : Stops word_byte rest
 
 pub record NumberToken (k : Kind) (w rest : List ℕ) : Type 0 where
   pub kind : k ≡ syntax.number (value_of w)
   pub some : 0 < length w
-  pub all : All (λ b. digit b ≡ true) w
+  pub all : AllByRecursion (λ b. digit b ≡ true) w
   pub first : 2 ≤ length w → slice_index w 0 ≢ 48
   pub full : Stops digit rest
 

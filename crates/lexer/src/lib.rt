@@ -2,7 +2,7 @@
 #![tactic(auto)]
 
 ghost use Rattle.std.specs.Prelude.{◌≡◌, ℕ, ◌≤◌, List, length, IfOk, MatchResult};
-ghost use Rattle.std.specs.List.{AllByRecursion as All};
+ghost use Rattle.std.specs.List.{AllByRecursion};
 ghost use Rattle.syntax.specs.Tokens.{token_of, tokens_of};
 ghost use Rattle.lexer.specs.Reading.{Lexical};
 ghost use Rattle.lexer.specs.Lex.{good, lexing, limited_all, lexemes_of, too_large, first_too_large, answer, accepted, Refuses, Strays, Within};
@@ -62,7 +62,7 @@ fn is_too_large(token: Token) -> bool
 }
 
 fn first_too_large(tokens: &[Token]) -> Option<u32>
-    ensures { (s : List ℕ) → All (Within s) tokens.now → result ≡ first_too_large (tokens_of s tokens.now) }
+    ensures { (s : List ℕ) → AllByRecursion (Within s) tokens.now → result ≡ first_too_large (tokens_of s tokens.now) }
 {
     for token in tokens {
         if is_too_large(*token) {
@@ -76,7 +76,7 @@ fn first_too_large(tokens: &[Token]) -> Option<u32>
 pub fn lex(heap: Global, source: &[u8]) -> Result<Vec<Token>, Refusal>
     ensures answers { MatchResult result (λ v. answer source.now ≡ accepted (tokens_of source.now v.items)) (λ e. Refuses source.now e) }
     ensures lexemes { IfOk result (λ v. lexing source.now ≡ good (lexemes_of source.now v.items)) }
-    ensures within { IfOk result (λ v. All (Within source.now) v.items) }
+    ensures within { IfOk result (λ v. AllByRecursion (Within source.now) v.items) }
     ensures lexical { Lexical source.now }
 {
     if source.len() > MAX_BYTES {

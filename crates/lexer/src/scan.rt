@@ -1,6 +1,6 @@
 // The token that starts at the front of a text.
 ghost use Rattle.std.specs.Prelude.{◌≡◌, ℕ, ◌<◌, ◌≤◌, min, true, length, Some};
-ghost use Rattle.std.specs.List.{AllByRecursion as All};
+ghost use Rattle.std.specs.List.{AllByRecursion};
 ghost use Rattle.std.specs.Str.{bytes_eq};
 ghost use Rattle.syntax.specs.Tokens.{kind_of};
 ghost use Rattle.lexer.specs.Bytes.{begins, digit, letter};
@@ -57,7 +57,7 @@ fn word_kind(word: &[u8]) -> Kind
 }
 
 fn value(digits: &[u8]) -> u32
-    requires { All (λ b. digit b ≡ true) digits.now }
+    requires { AllByRecursion (λ b. digit b ≡ true) digits.now }
     ensures { result ≡ min (value_of digits.now) 1073741824 }
 {
     let mut value = 0;

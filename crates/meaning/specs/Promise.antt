@@ -16,7 +16,7 @@
 --   HistoriesMeanSources   finishing keeps it always
 --   HistoriesExist         any allowances are those of some history, so that the promise is no empty talk
 use Rattle.std.specs.Prelude.{◌≡◌, ℕ, ◌+◌, ◌≤◌, min, List, [], ◌∷◌, map, ℤ}
-use Rattle.std.specs.List.{AllByRecursion as All}
+use Rattle.std.specs.List.{AllByRecursion}
 use Rattle.syntax.specs.Tokens.{Name}
 use Rattle.syntax.specs.Trees.{Program}
 use Rattle.code.specs.declared.Instruction.{Instruction}
@@ -56,7 +56,7 @@ narrowed (stops s) = s.narrowings
 narrowed (fails p f s) = s.narrowings
 
 abbrev pub NarrowsInside : ArithmeticUnit → ArithmeticUnit → Program Name → Tapes → ℕ → Type 0
-NarrowsInside U V p t n = All (λ z. Inside U z × Inside V z) (narrowed (meaning_of_program U p (initial t n)))
+NarrowsInside U V p t n = AllByRecursion (λ z. Inside U z × Inside V z) (narrowed (meaning_of_program U p (initial t n)))
 
 pub record UnitsAgree : Type 0 where
   pub meanings : (U V : ArithmeticUnit) → Lawful U → Lawful V → (p : Program Name) (t : Tapes) (n : ℕ) → NarrowsInside U V p t n →

@@ -1,6 +1,6 @@
 -- Words of instructions in range are decoded as those instructions, and code whose cells and targets exist is admitted.
 use Rattle.std.proofs.Common.{◌≡◌, ℕ, zero, suc, ◌+◌, ◌-◌, ◌<◌, ◌≤◌, min, Bool, true, false, ◌&&◌, T, leb, List, [], ◌∷◌, ◌++◌, map, length, get_or, sym, refl, ap, ◌∙◌, subst, ap₂, arith, le→leb}
-use Rattle.std.specs.List.{AllByRecursion as All}
+use Rattle.std.specs.List.{AllByRecursion}
 use Rattle.syntax.specs.Tokens.{Name}
 use Rattle.syntax.specs.Trees.{Program}
 use Rattle.code.specs.declared.Instruction.{Instruction}
@@ -31,7 +31,7 @@ words_are : (c : Code) → map word_of (instructions c) ≡ words_of c
 words_are [] = refl
 words_are (x ∷ c) = ap (λ (ws : List ℕ). word_of x.0 ∷ ws) (words_are c)
 
-ranges_are : (c : Code) → Fits c → All InRange (instructions c)
+ranges_are : (c : Code) → Fits c → AllByRecursion InRange (instructions c)
 ranges_are [] h = tt
 ranges_are (x ∷ c) h = (h.0, ranges_are c h.1)
 
@@ -44,7 +44,7 @@ word_at [] h n l = absurd (none_below n l)
 word_at (x ∷ c) h zero l = (x.0, h.0, refl)
 word_at (x ∷ c) h (suc n) l = word_at c h.1 n (omega arith)
 
-same_instructions : OneWordEach → (is js : List Instruction) → All InRange is → All InRange js → map word_of is ≡ map word_of js → is ≡ js
+same_instructions : OneWordEach → (is js : List Instruction) → AllByRecursion InRange is → AllByRecursion InRange js → map word_of is ≡ map word_of js → is ≡ js
 same_instructions each [] [] h k e = refl
 same_instructions each [] (j ∷ js) h k e = cc
 same_instructions each (i ∷ is) [] h k e = cc
@@ -120,7 +120,7 @@ within_inside len Greater h = refl
 within_inside len AtMost h = refl
 within_inside len AtLeast h = refl
 
-all_inside_lem : (len : ℕ) (c : Code) → All (λ x. Within 1 (suc len) x.0) c → all_inside len (instructions c) ≡ true
+all_inside_lem : (len : ℕ) (c : Code) → AllByRecursion (λ x. Within 1 (suc len) x.0) c → all_inside len (instructions c) ≡ true
 all_inside_lem len [] h = refl
 all_inside_lem len (x ∷ c) h =
     both (inside len x.0) (all_inside len (instructions c)) (within_inside len x.0 h.0) (all_inside_lem len c h.1)

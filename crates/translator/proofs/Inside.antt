@@ -1,6 +1,6 @@
 -- The code of a program keeps to its cells and addresses.
 use Rattle.std.proofs.Common.{◌≡◌, ℕ, suc, ◌≤◌, List, [], ◌∷◌, ◌++◌, length, get_or, sym, ◌∙◌, subst, arith}
-use Rattle.std.specs.List.{AllByRecursion as All}
+use Rattle.std.specs.List.{AllByRecursion}
 use Rattle.std.proofs.ByRecursion.{All-append, All-from_get_or}
 use Rattle.syntax.specs.declared.token.Relation.{Relation}
 use Rattle.syntax.specs.declared.token.Relation.TheVariants.{Equal, Unequal, Less, Greater, AtMost, AtLeast}
@@ -21,20 +21,20 @@ use Rattle.translator.specs.Bounds.{Cell, Within, StaysInside}
 use Rattle.translator.proofs.Patched.{past_is, past-++}
 use Rattle.translator.proofs.Labels.{linearised}
 
-all_left : {X : Type 0} (P : X → Type 0) (xs ys : List X) → All P (xs ++ ys) → All P xs
+all_left : {X : Type 0} (P : X → Type 0) (xs ys : List X) → AllByRecursion P (xs ++ ys) → AllByRecursion P xs
 all_left P [] ys h = tt
 all_left P (x ∷ xs) ys h = (h.0, all_left P xs ys h.1)
 
-all_right : {X : Type 0} (P : X → Type 0) (xs ys : List X) → All P (xs ++ ys) → All P ys
+all_right : {X : Type 0} (P : X → Type 0) (xs ys : List X) → AllByRecursion P (xs ++ ys) → AllByRecursion P ys
 all_right P [] ys h = h
 all_right P (x ∷ xs) ys h = all_right P xs ys h.1
 
 abbrev Cells : List (ℕ × ℕ) → Type 0
-Cells xs = All (λ x. Cell x.0) xs
+Cells xs = AllByRecursion (λ x. Cell x.0) xs
 
 module _ (low high : ℕ) where
   abbrev Inside : Code → Type 0
-  Inside c = All (λ x. Within low high x.0) c
+  Inside c = AllByRecursion (λ x. Within low high x.0) c
 
   sum_inside : (o : Additive) → Within low high (code_of_sum o)
   sum_inside Plus = tt
@@ -146,10 +146,10 @@ module _ (low high : ℕ) where
 -- the uses of a tree with cells for names
 module _ (tab : Name → ℕ) (P : ℕ → Type 0) where
   abbrev Used : List (Name × ℕ) → Type 0
-  Used xs = All (λ x. P (tab x.0)) xs
+  Used xs = AllByRecursion (λ x. P (tab x.0)) xs
 
   abbrev Celled : List (ℕ × ℕ) → Type 0
-  Celled xs = All (λ x. P x.0) xs
+  Celled xs = AllByRecursion (λ x. P x.0) xs
 
   split : (xs ys : List (Name × ℕ)) (xs' ys' : List (ℕ × ℕ)) → (Used xs → Celled xs') → (Used ys → Celled ys') → Used (xs ++ ys) → Celled (xs' ++ ys')
   split xs ys xs' ys' f g h = All-append (λ x. P x.0) xs' ys' (f (all_left _ xs ys h)) (g (all_right _ xs ys h))
@@ -194,8 +194,8 @@ stays_inside p named =
     let code : Code = linear_code (cells_of_statements tab p.statements) in
     let e : linearise (trans p) ≡ code = linearised tab p.statements in
     let few : length p.declared ≤ 64 = named.declaration.few in
-    let cells : All (λ x. Cell (tab x.0)) (uses_in_statements p.statements) =
+    let cells : AllByRecursion (λ x. Cell (tab x.0)) (uses_in_statements p.statements) =
     All-from_get_or (λ x. Cell (tab x.0)) (uses_in_statements p.statements) ([], 0)
     (λ j h. let x : Name = (get_or (uses_in_statements p.statements) j ([], 0)).0 in (declared_cell 0 p.declared x (named.used j h), omega (arith, symbols_below 0 p.declared x))) in
-    subst (λ (c : Code). All (λ x. Within 1 (suc (length c)) x.0) c) (sym e)
+    subst (λ (c : Code). AllByRecursion (λ x. Within 1 (suc (length c)) x.0) c) (sym e)
     (statements_inside 1 (suc (length code)) (cells_of_statements tab p.statements) 1 (omega arith) (omega (arith, past_is 1 code)) (statements_cells tab Cell p.statements cells))

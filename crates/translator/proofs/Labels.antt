@@ -1,6 +1,6 @@
 -- The labels of a published translation are all different, so the table tells where each stands.
 use Rattle.std.proofs.Common.{◌≡◌, ℕ, zero, suc, ◌<◌, ◌≤◌, Bool, true, false, cond, ◌≢◌, List, [], ◌∷◌, ◌++◌, length, Some, None, Option, sym, refl, ap, ◌∙◌, subst, arith, length-append}
-use Rattle.std.specs.List.{AllByRecursion as All}
+use Rattle.std.specs.List.{AllByRecursion}
 use Rattle.std.specs.Str.{bytes_eq}
 use Rattle.std.proofs.ByRecursion.{All-append, All-weaker}
 use Rattle.std.proofs.lemmas.Slice.Eq.{bytes_eq-Decides}
@@ -21,7 +21,7 @@ apart_false l m f = elim (bytes_eq l m) as (λ b. (b ≡ true → l ≡ m) → b
 abbrev Apart : (P Q : Label → Type 0) → Type 0
 Apart P Q = (x y : Label) → P x → Q y → y ≢ x
 
-distinct-++ : (P Q : Label → Type 0) → Apart P Q → (xs ys : List Label) → All P xs → All Q ys → Distinct xs → Distinct ys → Distinct (xs ++ ys)
+distinct-++ : (P Q : Label → Type 0) → Apart P Q → (xs ys : List Label) → AllByRecursion P xs → AllByRecursion Q ys → Distinct xs → Distinct ys → Distinct (xs ++ ys)
 distinct-++ P Q f [] ys p q d e = e
 distinct-++ P Q f (x ∷ xs) ys p q d e =
     (All-append (λ m. m ≢ x) xs ys d.0 (All-weaker Q (λ m. m ≢ x) (λ y qy. f x y p.0 qy) ys q), distinct-++ P Q f xs ys p.1 q d.1 e)
@@ -123,17 +123,17 @@ apart_from a k x y p q = differ (length a) (Some k) (Some q.0) (some_some k q.0 
 
 record Good (a : Label) (ls : List Label) : Type 0 where
   distinct : Distinct ls
-  under : All (Under a) ls
+  under : AllByRecursion (Under a) ls
 
 record GoodSeq (a : Label) (k : ℕ) (ls : List Label) : Type 0 where
   distinct : Distinct ls
-  under : All (Under a) ls
-  later : All (From a k) ls
+  under : AllByRecursion (Under a) ls
+  later : AllByRecursion (From a k) ls
 
-nexts : (a : Label) (k : ℕ) (ls : List Label) → Good (below a k) ls → All (Next a (Some k)) ls
+nexts : (a : Label) (k : ℕ) (ls : List Label) → Good (below a k) ls → AllByRecursion (Next a (Some k)) ls
 nexts a k ls g = All-weaker (Under (below a k)) (Next a (Some k)) (λ l u. under_next a k l u) ls g.under
 
-lesser : (a : Label) (k : ℕ) (ls : List Label) → Good (below a k) ls → All (Under a) ls
+lesser : (a : Label) (k : ℕ) (ls : List Label) → Good (below a k) ls → AllByRecursion (Under a) ls
 lesser a k ls g = All-weaker (Under (below a k)) (Under a) (λ l u. under_less a k l u) ls g.under
 
 good_none : (a : Label) (ls : List Label) → ls ≡ [] → Good a ls

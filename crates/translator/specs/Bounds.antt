@@ -4,7 +4,7 @@
 --   StaysInside    the code of a program whose names are declared as they should be has such cells, and its jumps stay
 --                  between the first address and the one behind the last
 use Rattle.std.specs.Prelude.{ℕ, suc, ◌≤◌, length}
-use Rattle.std.specs.List.{AllByRecursion as All}
+use Rattle.std.specs.List.{AllByRecursion}
 use Rattle.syntax.specs.Tokens.{Name}
 use Rattle.syntax.specs.Trees.{Program}
 use Rattle.names.specs.Names.{Named}
@@ -36,4 +36,4 @@ Within low high AtMost = Unit {0}
 Within low high AtLeast = Unit {0}
 
 abbrev pub StaysInside : Type 0
-StaysInside = (p : Program Name) → Named p → All (λ x. Within 1 (suc (length (linearise (trans p)))) x.0) (linearise (trans p))
+StaysInside = (p : Program Name) → Named p → AllByRecursion (λ x. Within 1 (suc (length (linearise (trans p)))) x.0) (linearise (trans p))

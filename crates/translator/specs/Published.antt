@@ -13,7 +13,7 @@
 --   LabelledOnce    no tree address stands twice in a program's translation
 --   Linearised      the published code, linearised, is the linear code of the tree with cells for names
 use Rattle.std.specs.Prelude.{◌≡◌, ℕ, suc, cond, ◌≢◌, List, [], ◌∷◌, ◌++◌, pos, negsuc}
-use Rattle.std.specs.List.{AllByRecursion as All}
+use Rattle.std.specs.List.{AllByRecursion}
 use Rattle.std.specs.Str.{bytes_eq}
 use Rattle.syntax.specs.declared.token.Relation.{Relation}
 use Rattle.syntax.specs.declared.token.Relation.TheVariants.{Equal, Unequal, Less, Greater, AtMost, AtLeast}
@@ -141,7 +141,7 @@ labels (jump l p ∷ xs) = labels xs
 labels (jump_if_zero l p ∷ xs) = labels xs
 
 abbrev pub Absent : Label → List Label → Type 0
-Absent l ms = All (λ m. m ≢ l) ms
+Absent l ms = AllByRecursion (λ m. m ≢ l) ms
 
 abbrev pub Distinct : List Label → Type 0
 Distinct [] = Unit {0}

@@ -6,7 +6,7 @@
 --   Unstored   why code is refused: 9 at the place of the 4,097th instruction, or 10
 --   Outcome    one of the two; where the code is refused both buffers stay as they were
 use Rattle.std.specs.Prelude.{◌≡◌, ℕ, ◌<◌, ◌≤◌, ◌⊎◌, List, ◌++◌, map, length, drop, Ok, Err, Result, slice_index}
-use Rattle.std.specs.List.{AllByRecursion as All}
+use Rattle.std.specs.List.{AllByRecursion}
 use Rattle.code.specs.Words.{word_of, InRange}
 use Rattle.translator.specs.declared.refusal.Refusal.{Refusal}
 use Rattle.translator.specs.declared.refusal.Refusal.TheVariants.{Naming, TooMuchCode, SmallBuffer, NoMemory}
@@ -17,7 +17,7 @@ abbrev pub words_of : Code → List ℕ
 words_of c = map (λ x. word_of x.0) c
 
 abbrev pub Fits : Code → Type 0
-Fits c = All (λ x. InRange x.0) c
+Fits c = AllByRecursion (λ x. InRange x.0) c
 
 abbrev pub Written : List ℕ → List ℕ → List ℕ → Type 0
 Written words before after = after ≡ words ++ drop (length words) before

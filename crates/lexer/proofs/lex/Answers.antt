@@ -1,5 +1,5 @@
 use Rattle.std.proofs.Common.{List, vec_items, sym, ap, ◌∙◌, subst, arith}
-use Rattle.std.specs.List.{AllByRecursion as All}
+use Rattle.std.specs.List.{AllByRecursion}
 use Rattle.std.proofs.lemmas.Result.{err_from_is_err_and}
 use Rattle.syntax.specs.declared.token.Token.{Token}
 use Rattle.syntax.specs.Tokens.{tokens_of}
@@ -25,7 +25,7 @@ returns-in-Some c =
     let s = c.args.source.now in
     let ts = vec_items c.in_ok-tokens.tokens in
     let cut = c.in_ok-tokens.ensures in
-    let P : List Token → Type 0 = λ us. All (Within s) us in
+    let P : List Token → Type 0 = λ us. AllByRecursion (Within s) us in
     let first = c.in-Some.ensures s (subst P (sym c.deref.ensures.value) (all_within s ts cut)) ∙ ap (λ us. first_too_large (tokens_of s us)) c.deref.ensures.value in
     record { answers = large_refused s ts (omega arith) c.in-Some.place cut (sym first); lexemes = tt; within = tt; lexical = lexical s }
 
@@ -34,7 +34,7 @@ returns-in-None c =
     let s = c.args.source.now in
     let ts = vec_items c.in_ok-tokens.tokens in
     let cut = c.in_ok-tokens.ensures in
-    let P : List Token → Type 0 = λ us. All (Within s) us in
+    let P : List Token → Type 0 = λ us. AllByRecursion (Within s) us in
     let first = c.in-None.ensures s (subst P (sym c.deref.ensures.value) (all_within s ts cut)) ∙ ap (λ us. first_too_large (tokens_of s us)) c.deref.ensures.value in
     record {
       answers = small_accepted s ts (omega arith) cut (sym first);

@@ -4,7 +4,8 @@
 
 ghost use Rattle.std.specs.Prelude.{pos, negsuc};
 ghost use Rattle.units.specs.Narrowing.{strict};
-ghost use Rattle.std.proofs.Common.{rules};
+ghost use Rattle.units.specs.Laws.{strict_keeps, strict_inside};
+ghost use Rattle.machine_trials.specs.Hundred as hundred;
 
 use image::admission::admit;
 use machine::fault::{Cause, Fault};
@@ -32,13 +33,13 @@ impl Arithmetic for Hundred {
 
     ghost narrowed = { strict (negsuc 99) (pos 100) };
 
-    ghost low = { Prim.search rules };
+    ghost low = { hundred.low };
 
-    ghost high = { Prim.search rules };
+    ghost high = { hundred.high };
 
-    ghost keeps = { Prim.search rules };
+    ghost keeps = { strict_keeps (negsuc 99) (pos 100) };
 
-    ghost inside = { Prim.search rules };
+    ghost inside = { strict_inside (negsuc 99) (pos 100) };
 
     fn lowest() -> i32 {
         Self::LEAST

@@ -1,5 +1,5 @@
 -- How deep parentheses stand in each other.
---   depthOf…   of each piece; a piece without parentheses has depth 0
+--   depth_of_… of each piece; a piece without parentheses has depth 0
 use Rattle.std.specs.Prelude.{ℕ, suc, max}
 use Rattle.syntax.specs.Trees.{Expression, first, minus, more, Term, one, times, Factor, name, number, paren, Condition, test, Statement, assign, scan, print, when, either, while, block, Statements, none, then}
 

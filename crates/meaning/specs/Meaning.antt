@@ -6,7 +6,7 @@
 --   act          one act at a token: the tick, then the fault or the deed
 --   exact, value_of_name, sum, product, compared, assigned, scanned, printed, unchanged  the acts, each by its rule
 --   holds        whether a relation holds of two numbers
---   meaningOf…   what each piece means: its acts in their order
+--   meaning_of_… what each piece means: its acts in their order
 --   rounds       at most so many rounds of a loop
 --   initial      the state at the start
 --   cell_by      the cell of a name by the declaration; 0 for a name that is not declared

@@ -1,5 +1,5 @@
 -- The names that stand in statements.
---   usesIn…           the names of a tree, each with its place, in the order of the source
+--   uses_in_…         the names of a tree, each with its place, in the order of the source
 --   Declared          some entry has the name
 --   AllDeclared       every name used is declared
 --   FirstUndeclared   the first name used that is not declared stands at this place

@@ -1,9 +1,9 @@
 -- The linear translation of a tree with cells: instructions with the places of their tokens.
---   Code            instructions, each with the place of its token
+--   Code                   instructions, each with the place of its token
 --   instructions, places   the two lists of a code
---   past            the address after some code that stands at an address
---   codeOf…         the code of each piece; of a statement at an address
---   linear_code     the code of a program's statements, from address 1
+--   past                   the address after some code that stands at an address
+--   code_of_…              the code of each piece; of a statement at an address
+--   linear_code            the code of a program's statements, from address 1
 use Rattle.std.specs.Prelude.{ℕ, suc, List, [], ◌∷◌, ◌++◌, map, pos, negsuc}
 use Rattle.syntax.specs.declared.token.Relation.{Relation}
 use Rattle.syntax.specs.declared.token.Relation.TheVariants.{Equal, Unequal, Less, Greater, AtMost, AtLeast}

@@ -2,8 +2,8 @@
 ghost use Rattle.std.specs.Prelude.{◌≡◌, ℤ, pos, negsuc, ◌≤ℤ◌, Some, Option};
 ghost use Rattle.units.specs.Narrowing.{Within};
 
-// A law cannot read an associated constant: `least` and `greatest` stand for the two ends in the laws, and the methods
-// `lowest` and `highest` give the constants and say that they are those ends.
+// `least` and `greatest` stand for the two ends in the laws, and the methods `lowest` and `highest` give the constants and
+// say that they are those ends.
 pub trait Arithmetic {
     const LEAST: i32;
 

@@ -1,6 +1,6 @@
 // 16 bits; a number outside them gives the nearer end.
 ghost use Rattle.units.specs.Narrowing.{minimum, maximum, clamped};
-ghost use Rattle.std.proofs.Common.{rules};
+ghost use Rattle.units.specs.Laws.{low_16, high_16, ordered_16, clamped_keeps, clamped_inside};
 
 use crate::arithmetic::Arithmetic;
 
@@ -18,13 +18,13 @@ impl Arithmetic for Clamped {
 
     ghost narrowed = { clamped (minimum 16) (maximum 16) };
 
-    ghost low = { Prim.search rules };
+    ghost low = { low_16 };
 
-    ghost high = { Prim.search rules };
+    ghost high = { high_16 };
 
-    ghost keeps = { Prim.search rules };
+    ghost keeps = { clamped_keeps (minimum 16) (maximum 16) };
 
-    ghost inside = { Prim.search rules };
+    ghost inside = { λ x. clamped_inside (minimum 16) (maximum 16) x ordered_16 };
 
     fn lowest() -> i32 {
         Self::LEAST

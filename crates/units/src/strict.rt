@@ -1,6 +1,6 @@
 // 32 bits; a number outside them gives nothing.
 ghost use Rattle.units.specs.Narrowing.{minimum, maximum, strict};
-ghost use Rattle.std.proofs.Common.{rules};
+ghost use Rattle.units.specs.Laws.{low_32, high_32, strict_keeps, strict_inside};
 
 use crate::arithmetic::Arithmetic;
 
@@ -18,13 +18,13 @@ impl Arithmetic for Strict {
 
     ghost narrowed = { strict (minimum 32) (maximum 32) };
 
-    ghost low = { Prim.search rules };
+    ghost low = { low_32 };
 
-    ghost high = { Prim.search rules };
+    ghost high = { high_32 };
 
-    ghost keeps = { Prim.search rules };
+    ghost keeps = { strict_keeps (minimum 32) (maximum 32) };
 
-    ghost inside = { Prim.search rules };
+    ghost inside = { strict_inside (minimum 32) (maximum 32) };
 
     fn lowest() -> i32 {
         Self::LEAST

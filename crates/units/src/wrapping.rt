@@ -1,7 +1,6 @@
 // 32 bits; a number outside them gives the one inside that differs from it by a multiple of 2^32.
 ghost use Rattle.units.specs.Narrowing.{minimum, maximum, wrapping, Wraps};
-ghost use borrow.Author.Rules.{rules};
-ghost use Rattle.std.specs.Int.{int_wrap};
+ghost use Rattle.units.specs.Laws.{low_32, high_32, wrapping_keeps, wrapping_inside};
 
 use crate::arithmetic::Arithmetic;
 
@@ -19,13 +18,13 @@ impl Arithmetic for Wrapping {
 
     ghost narrowed = { wrapping };
 
-    ghost low = { Prim.search rules };
+    ghost low = { low_32 };
 
-    ghost high = { Prim.search rules };
+    ghost high = { high_32 };
 
-    ghost keeps = { unfold int_wrap in Prim.search rules };
+    ghost keeps = { wrapping_keeps };
 
-    ghost inside = { unfold int_wrap in Prim.search rules };
+    ghost inside = { wrapping_inside };
 
     fn lowest() -> i32 {
         Self::LEAST

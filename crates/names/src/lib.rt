@@ -1,6 +1,7 @@
 // The names of a program: how many are declared, each once, and which cell each has.
 #![tactic(auto)]
 
+ghost use Rattle.std.specs.Prelude.{MatchResult};
 ghost use Rattle.syntax.specs.TreeOf.{declared_of, tree_of};
 ghost use Rattle.names.specs.Declares.{Declaration, Refuses};
 ghost use Rattle.names.specs.Names.{Answers};

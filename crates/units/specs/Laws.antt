@@ -3,7 +3,7 @@
 --   low_32, high_32               the ends of 32 bits
 --   strict_keeps, strict_inside   a number inside the range comes back as itself; what comes back lies inside
 --   clamped_…, wrapping_…         the same of the other two
-use Rattle.std.specs.Prelude.{◌≡◌, ◌-◌, ◌^◌, ◌≤◌, Bool, true, false, not, cond, ℤ, pos, negsuc, ◌≤ℤ◌, Some, None, int_lt}
+use Rattle.std.specs.Prelude.{◌≡◌, ◌-◌, ◌^◌, ◌≤◌, Bool, true, false, not, cond, ℤ, pos, negsuc, ◌≤ℤ◌, ◌<ℤ◌, Some, None, Option, int_lt}
 use Rattle.std.specs.Int.{int_wrap, w32}
 use Rattle.std.proofs.Common.{T, SFits, sym, refl, ap, subst, arith, le→leb, leb→le}
 use Rattle.std.proofs.lemmas.Int.{int_wrap_fits, SFits-int_wrap}
@@ -26,50 +26,30 @@ pub high_32 : pos 1 ≤ℤ maximum 32
 high_32 = le_z_yes tt
 
 module _ (low high x : ℤ) where
-  -- what the two tests of a unit say
-  below_low : int_lt x low ≡ true → low ≤ℤ x → ⊥
-  below_low e above = clash_ℤ (lt_z_yes (subst (λ (b : Bool). T b) (sym e) tt)) above
+  -- what holds of each answer below, above and inside a range holds of the answer that the two tests pick
+  picked : (P : Option ℤ → Type 0) (under over : Option ℤ) → (x <ℤ low → P under) → (high <ℤ x → P over) → (low ≤ℤ x → x ≤ℤ high → P (Some x)) →
+      P (cond (int_lt x low) under (cond (int_lt high x) over (Some x)))
+  picked P under over below above inside = by (int_lt x low) refl (int_lt high x) refl
+    where
+      told : (b c : Bool) → c ≡ b → T b → T c
+      told b c e t = subst (λ (v : Bool). T v) (sym e) t
 
-  above_high : int_lt high x ≡ true → x ≤ℤ high → ⊥
-  above_high e below = clash_ℤ (lt_z_yes (subst (λ (b : Bool). T b) (sym e) tt)) below
-
-  from_low : int_lt x low ≡ false → low ≤ℤ x
-  from_low e = lt_z_no (subst (λ (b : Bool). T (not b)) (sym e) tt)
-
-  to_high : int_lt high x ≡ false → x ≤ℤ high
-  to_high e = lt_z_no (subst (λ (b : Bool). T (not b)) (sym e) tt)
+      by : (a : Bool) → int_lt x low ≡ a → (b : Bool) → int_lt high x ≡ b → P (cond a under (cond b over (Some x)))
+      by true e b f = below (lt_z_yes (told true (int_lt x low) e tt))
+      by false e true f = above (lt_z_yes (told true (int_lt high x) f tt))
+      by false e false f = inside (lt_z_no (told true (not (int_lt x low)) (ap not e) tt)) (lt_z_no (told true (not (int_lt high x)) (ap not f) tt))
 
   pub strict_keeps : low ≤ℤ x → x ≤ℤ high → strict low high x ≡ Some x
-  strict_keeps above below = by (int_lt x low) refl (int_lt high x) refl
-    where
-      by : (a : Bool) → int_lt x low ≡ a → (b : Bool) → int_lt high x ≡ b → cond a None (cond b None (Some x)) ≡ Some x
-      by true e b f = absurd (below_low e above)
-      by false e true f = absurd (above_high f below)
-      by false e false f = refl
+  strict_keeps above below = picked (λ r. r ≡ Some x) None None (λ h. clash_ℤ h above) (λ h. clash_ℤ h below) (λ _ _. refl)
 
   pub strict_inside : Within low high (strict low high x)
-  strict_inside = by (int_lt x low) refl (int_lt high x) refl
-    where
-      by : (a : Bool) → int_lt x low ≡ a → (b : Bool) → int_lt high x ≡ b → Within low high (cond a None (cond b None (Some x)))
-      by true e b f = tt
-      by false e true f = tt
-      by false e false f = (from_low e, to_high f)
+  strict_inside = picked (Within low high) None None (λ _. tt) (λ _. tt) (λ above below. (above, below))
 
   pub clamped_keeps : low ≤ℤ x → x ≤ℤ high → clamped low high x ≡ Some x
-  clamped_keeps above below = by (int_lt x low) refl (int_lt high x) refl
-    where
-      by : (a : Bool) → int_lt x low ≡ a → (b : Bool) → int_lt high x ≡ b → cond a (Some low) (cond b (Some high) (Some x)) ≡ Some x
-      by true e b f = absurd (below_low e above)
-      by false e true f = absurd (above_high f below)
-      by false e false f = refl
+  clamped_keeps above below = picked (λ r. r ≡ Some x) (Some low) (Some high) (λ h. clash_ℤ h above) (λ h. clash_ℤ h below) (λ _ _. refl)
 
   pub clamped_inside : low ≤ℤ high → Within low high (clamped low high x)
-  clamped_inside ordered = by (int_lt x low) refl (int_lt high x) refl
-    where
-      by : (a : Bool) → int_lt x low ≡ a → (b : Bool) → int_lt high x ≡ b → Within low high (cond a (Some low) (cond b (Some high) (Some x)))
-      by true e b f = (≤ℤ_refl low, ordered)
-      by false e true f = (ordered, ≤ℤ_refl high)
-      by false e false f = (from_low e, to_high f)
+  clamped_inside ordered = picked (Within low high) (Some low) (Some high) (λ _. (≤ℤ_refl low, ordered)) (λ _. (ordered, ≤ℤ_refl high)) (λ above below. (above, below))
 
 fits_32 : (x : ℤ) → minimum 32 ≤ℤ x → x ≤ℤ maximum 32 → SFits w32 x
 fits_32 (pos n) above below = let h : n ≤ 2 ^ 31 - 1 = leb→le n (2 ^ 31 - 1) below.le in record { sfits = omega arith }

@@ -1,7 +1,7 @@
 // Tokens: what each is, where it begins in the source, and how many bytes it has.
 
 // A token with one spelling that is no operator.
-#[derive(Clone, Copy)]
+#[derive(Clone, Copy, PartialEq, Eq, Debug)]
 pub enum Mark {
     Head,
     Int,
@@ -23,7 +23,7 @@ pub enum Mark {
     Assign,
 }
 
-#[derive(Clone, Copy)]
+#[derive(Clone, Copy, PartialEq, Eq, Debug)]
 pub enum Relation {
     Equal,
     Unequal,
@@ -33,13 +33,13 @@ pub enum Relation {
     AtLeast,
 }
 
-#[derive(Clone, Copy)]
+#[derive(Clone, Copy, PartialEq, Eq, Debug)]
 pub enum Additive {
     Plus,
     Minus,
 }
 
-#[derive(Clone, Copy)]
+#[derive(Clone, Copy, PartialEq, Eq, Debug)]
 pub enum Multiplicative {
     Times,
     Divide,
@@ -47,7 +47,7 @@ pub enum Multiplicative {
 }
 
 // A name's bytes stand in the source, at the token's place.
-#[derive(Clone, Copy)]
+#[derive(Clone, Copy, PartialEq, Eq, Debug)]
 pub enum Kind {
     Mark(Mark),
     Name,
@@ -57,7 +57,7 @@ pub enum Kind {
     Multiplicative(Multiplicative),
 }
 
-#[derive(Clone, Copy)]
+#[derive(Clone, Copy, PartialEq, Eq, Debug)]
 pub struct Token {
     pub kind: Kind,
     pub place: u32,

@@ -2,7 +2,7 @@
 use crate::token::{Additive, Multiplicative, Relation};
 
 // Where a name stands in the source.
-#[derive(Clone, Copy)]
+#[derive(Clone, Copy, PartialEq, Eq, Debug)]
 pub struct Name {
     pub place: u32,
     pub length: u32,

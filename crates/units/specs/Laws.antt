@@ -1,29 +1,25 @@
 -- That the three units keep the laws of arithmetic units, each over any range that it can have.
---   low_16, high_16, ordered_16   the ends of 16 bits: one below 0, one above, in order
---   low_32, high_32               the ends of 32 bits
+--   least_is_negative, greatest_is_positive, ordered
+--                                 the ends of so many bits: one below 0, one above where there are two bits, in order
 --   strict_keeps, strict_inside   a number inside the range comes back as itself; what comes back lies inside
 --   clamped_…, wrapping_…         the same of the other two
-use Rattle.std.specs.Prelude.{◌≡◌, ◌-◌, ◌^◌, ◌≤◌, Bool, true, false, not, cond, ℤ, pos, negsuc, ◌≤ℤ◌, ◌<ℤ◌, Some, None, Option, int_lt}
+use Rattle.std.specs.Prelude.{◌≡◌, ℕ, ◌-◌, ◌^◌, ◌≤◌, Bool, true, false, not, cond, ℤ, pos, negsuc, ◌≤ℤ◌, ◌<ℤ◌, Some, None, Option, int_lt}
 use Rattle.std.specs.Int.{int_wrap, w32}
 use Rattle.std.proofs.Common.{T, SFits, sym, refl, ap, subst, arith, le→leb, leb→le}
 use Rattle.std.proofs.lemmas.Int.{int_wrap_fits, SFits-int_wrap}
+use Rattle.std.proofs.Math.Pow.{pow_mono}
+use lib.Dec.{leb}
 use lib.Signed.{le_z_yes, lt_z_yes, lt_z_no, clash_ℤ, ≤ℤ_refl}
 use Rattle.units.specs.Narrowing.{minimum, maximum, Within, strict, clamped, wrapping}
 
-pub low_16 : minimum 16 ≤ℤ negsuc 0
-low_16 = le_z_yes tt
+pub least_is_negative : (bits : ℕ) → minimum bits ≤ℤ negsuc 0
+least_is_negative bits = le_z_yes (le→leb 0 (2 ^ (bits - 1) - 1) (omega arith))
 
-pub high_16 : pos 1 ≤ℤ maximum 16
-high_16 = le_z_yes tt
+pub greatest_is_positive : (bits : ℕ) → T (leb 2 bits) → pos 1 ≤ℤ maximum bits
+greatest_is_positive bits two = le_z_yes (le→leb 1 (2 ^ (bits - 1) - 1) (let h : 2 ^ 1 ≤ 2 ^ (bits - 1) = pow_mono {i = 1} {j = bits - 1} (omega (arith, leb→le 2 bits two)) in omega (arith, h)))
 
-pub ordered_16 : minimum 16 ≤ℤ maximum 16
-ordered_16 = le_z_yes tt
-
-pub low_32 : minimum 32 ≤ℤ negsuc 0
-low_32 = le_z_yes tt
-
-pub high_32 : pos 1 ≤ℤ maximum 32
-high_32 = le_z_yes tt
+pub ordered : (bits : ℕ) → minimum bits ≤ℤ maximum bits
+ordered bits = le_z_yes tt
 
 module _ (low high x : ℤ) where
   -- what holds of each answer below, above and inside a range holds of the answer that the two tests pick

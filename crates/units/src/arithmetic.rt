@@ -2,34 +2,38 @@
 ghost use Rattle.std.specs.Prelude.{◌≡◌, ℤ, pos, negsuc, ◌≤ℤ◌, Some, Option};
 ghost use Rattle.units.specs.Narrowing.{Within};
 
-// `least` and `greatest` stand for the two ends in the laws, and the methods `lowest` and `highest` give the constants and
-// say that they are those ends.
 pub trait Arithmetic {
-    const LEAST: i32;
+    ghost LEAST: { ℤ };
 
-    const GREATEST: i32;
-
-    ghost least: { ℤ };
-
-    ghost greatest: { ℤ };
+    ghost GREATEST: { ℤ };
 
     ghost narrowed: { ℤ → Option ℤ };
 
-    fn lowest() -> i32
-        ensures { result ≡ least };
+    const LEAST: i32;
 
-    fn highest() -> i32
-        ensures { result ≡ greatest };
+    const GREATEST: i32;
 
     // The number of the range that stands for x, or none.
     fn narrow(&self, x: i64) -> Option<i32>
         ensures { result ≡ narrowed x };
 
-    ghost low: { least ≤ℤ negsuc 0 };
+    final fn lowest() -> i32
+        ensures { result ≡ LEAST }
+    {
+        Self::LEAST
+    }
 
-    ghost high: { pos 1 ≤ℤ greatest };
+    final fn highest() -> i32
+        ensures { result ≡ GREATEST }
+    {
+        Self::GREATEST
+    }
 
-    ghost keeps: { (x : ℤ) → least ≤ℤ x → x ≤ℤ greatest → narrowed x ≡ Some x };
+    ghost low: { LEAST ≤ℤ negsuc 0 };
 
-    ghost inside: { (x : ℤ) → Within least greatest (narrowed x) };
+    ghost high: { pos 1 ≤ℤ GREATEST };
+
+    ghost keeps: { (x : ℤ) → LEAST ≤ℤ x → x ≤ℤ GREATEST → narrowed x ≡ Some x };
+
+    ghost inside: { (x : ℤ) → Within LEAST GREATEST (narrowed x) };
 }

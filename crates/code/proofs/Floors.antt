@@ -1,29 +1,19 @@
 -- Division rounds down, by the signs of its operands.
-use Rattle.std.proofs.Common.{◌≡◌, ℕ, zero, suc, ◌+◌, ◌-◌, ◌*◌, ◌/◌, ◌%◌, ◌<◌, ◌≤◌, Bool, true, false, cond, T, ltb, ℤ, pos, negsuc, ◌+ℤ◌, ◌*ℤ◌, neg_ℤ, sym, refl, ap, ◌∙◌, subst, mod-lt, mul-zero, mul-suc, arith, le→leb, ltb→lt, lt→ltb}
+use Rattle.std.proofs.Common.{◌≡◌, ℕ, zero, suc, ◌+◌, ◌-◌, ◌*◌, ◌/◌, ◌%◌, ◌<◌, ◌≤◌, false, ltb, ℤ, pos, negsuc, ◌+ℤ◌, ◌*ℤ◌, neg_ℤ, sym, refl, ap, ◌∙◌, subst, mod-lt, mul-zero, mul-suc, arith, le→leb, lt→ltb}
+use Rattle.std.proofs.lemmas.Bool.{cond-true, cond-false, lt-ltb, le-ltb}
 use native.Mathlib.Nat.{div-add-mod}
 use lib.IntN.{sub_ℕ, -ℤ-+ℤ_cancel, neg_ℤ-neg_ℤ}
 use lib.Signed.{le_z_yes, lt_z_yes}
 use Rattle.code.specs.Division.{quotient, remainder, is_zero, Nearer, RoundsDown}
 
-pub T_true : (b : Bool) → T b → b ≡ true
-T_true true t = refl
-T_true false t = absurd t
-
-pub not_T_false : (b : Bool) → (T b → ⊥) → b ≡ false
-not_T_false true f = absurd (f tt)
-not_T_false false f = refl
-
 -- a difference of naturals, by which is the larger
 sub_up : (a b : ℕ) → b ≤ a → sub_ℕ a b ≡ pos (a - b)
-sub_up a b h = ap (λ (t : Bool). cond t (negsuc (b - suc a)) (pos (a - b))) (not_T_false (ltb a b) (λ t. no_way (ltb→lt a b t)))
-  where
-    no_way : a < b → ⊥
-    no_way l = omega arith
+sub_up a b h = cond-false (ltb a b) (negsuc (b - suc a)) (pos (a - b)) (le-ltb a b h)
 
 neg_of : (a b k : ℕ) → b ≡ a + k → sub_ℕ a b ≡ neg_ℤ (pos k)
 neg_of a b zero e = sub_up a b (omega arith) ∙ (let z : a - b ≡ 0 = omega arith in ap pos z)
 neg_of a b (suc k) e =
-    ap (λ (t : Bool). cond t (negsuc (b - suc a)) (pos (a - b))) (T_true (ltb a b) (lt→ltb a b (omega arith)))
+    cond-true (ltb a b) (negsuc (b - suc a)) (pos (a - b)) (lt-ltb a b (omega arith))
     ∙ (let z : b - suc a ≡ k = omega arith in ap negsuc z)
 
 pos_minus : (a b : ℕ) → pos a +ℤ neg_ℤ (pos b) ≡ sub_ℕ a b
@@ -42,10 +32,7 @@ down : (n k : ℕ) (r : ℤ) → k < suc n → r ≡ neg_ℤ (pos k) → Nearer 
 down n k r h e = subst (λ (z : ℤ). Nearer (negsuc n) z) (sym e) (down_is n k h)
 
 nearer : (a b : ℤ) → is_zero b ≡ false → Nearer b (remainder a b)
-nearer a (pos zero) e = let z : ◌≡◌ {A = ℕ} 0 1 = cc in absurd (no z)
-  where
-    no : ◌≡◌ {A = ℕ} 0 1 → ⊥
-    no z = omega arith
+nearer a (pos zero) e = cc
 nearer (pos a) (pos (suc n)) e =
     let d : suc n * (a / suc n) + a % suc n ≡ a = div-add-mod a (suc n) in
     let y : ℕ = suc n * (a / suc n) in

@@ -1,11 +1,11 @@
 -- The laws of the stack, instruction by instruction.
-use Rattle.std.proofs.Common.{◌≡◌, ℕ, zero, suc, ◌+◌, ◌-◌, ◌<◌, ◌≤◌, Bool, true, false, cond, eqb, ltb, List, [], ◌∷◌, ◌++◌, length, get_or, ℤ, pos, negsuc, ◌+ℤ◌, ◌-ℤ◌, ◌*ℤ◌, Some, None, Option, sym, refl, ap, ◌∙◌, arith, ltb→lt, lt→ltb, length-append}
+use Rattle.std.proofs.Common.{◌≡◌, ℕ, zero, suc, ◌+◌, ◌-◌, ◌<◌, ◌≤◌, Bool, true, false, cond, eqb, ltb, List, [], ◌∷◌, ◌++◌, length, get_or, ℤ, pos, negsuc, ◌+ℤ◌, ◌-ℤ◌, ◌*ℤ◌, Some, None, Option, sym, refl, ap, ◌∙◌, arith, length-append}
+use Rattle.std.proofs.lemmas.Bool.{cond-true, cond-false, lt-ltb, le-ltb}
 use Rattle.code.specs.declared.Instruction.TheVariants.{Literal, Read, Write, Load, Store, Jump, JumpIfZero, Add, Subtract, Multiply, Divide, Modulo, Less, Equal, Unequal, Greater, AtMost, AtLeast}
 use Rattle.code.specs.World.{World, plain, ArithmeticUnit}
 use Rattle.code.specs.Division.{quotient, remainder, is_zero}
 use Rattle.code.specs.Machine.{Step, moved, faulted, with_space, push, division, read_into, read, write, put, pop_two, execute}
 use Rattle.code.specs.Stack.{over, Frame, TooFew, Full, Jumps}
-use Rattle.code.proofs.Floors.{T_true, not_T_false}
 
 over_cond : (deep : List ℤ) (b : Bool) (x y : Step) → cond b (over deep x) (over deep y) ≡ over deep (cond b x y)
 over_cond deep true x y = refl
@@ -35,10 +35,10 @@ write_over a st deep w (Some v) =
     (moved (suc a) st (put v w))
 
 room_is : (st : List ℤ) → length st < 68 → (w : World) (x : Step) → with_space st w x ≡ x
-room_is st h w x = ap (λ (b : Bool). cond b x (faulted (plain 26) w)) (T_true (ltb (length st) 68) (lt→ltb (length st) 68 h))
+room_is st h w x = cond-true (ltb (length st) 68) x (faulted (plain 26) w) (lt-ltb (length st) 68 h)
 
 full_is : (st : List ℤ) → 68 ≤ length st → (w : World) (x : Step) → with_space st w x ≡ faulted (plain 26) w
-full_is st h w x = ap (λ (b : Bool). cond b x (faulted (plain 26) w)) (not_T_false (ltb (length st) 68) (λ t. let l : length st < 68 = ltb→lt (length st) 68 t in omega arith))
+full_is st h w x = cond-false (ltb (length st) 68) x (faulted (plain 26) w) (le-ltb (length st) 68 h)
 
 with_space_over : (a : ℕ) (st deep : List ℤ) (w : World) (c : ℕ) (o : Option ℤ) → length st + length deep < 68 →
     with_space (st ++ deep) w (push a (st ++ deep) w c o) ≡ over deep (with_space st w (push a st w c o))
@@ -47,23 +47,17 @@ with_space_over a st deep w c o h =
     ∙ push_over a st deep w c o
     ∙ ap (λ (x : Step). over deep x) (sym (room_is st (omega arith) w (push a st w c o)))
 
-none_of : (n : ℕ) → suc n ≤ 0 → ⊥
-none_of n h = omega arith
-
-one_of : 2 ≤ 1 → ⊥
-one_of h = omega arith
-
 -- an instruction that takes two words goes on with them
 two_over : (deep st : List ℤ) (w : World) (f : ℤ → ℤ → List ℤ → Step) → 2 ≤ length st → ((x y : ℤ) (r : List ℤ) → f x y (r ++ deep) ≡ over deep (f x y r)) → pop_two (st ++ deep) w f ≡ over deep (pop_two st w f)
-two_over deep [] w f h e = absurd (none_of 1 h)
-two_over deep (y ∷ []) w f h e = absurd (one_of h)
+two_over deep [] w f h e = absurd (omega arith)
+two_over deep (y ∷ []) w f h e = absurd (omega arith)
 two_over deep (y ∷ x ∷ st) w f h e = e x y st
 
 pub frame : Frame
 frame U (Read n) a st deep w h l = read_over U n a st deep w w.tapes.waiting
 frame U (Write n) a st deep w h l = write_over a st deep w (get_or w.cells (n - 1) None)
 frame U (Load n) a st deep w h l = with_space_over a st deep w 22 (get_or w.cells (n - 1) None) l
-frame U (Store n) a [] deep w h l = absurd (none_of 0 h)
+frame U (Store n) a [] deep w h l = absurd (omega arith)
 frame U (Store n) a (v ∷ st) deep w h l = refl
 frame U (Literal z) a st deep w h l = with_space_over a st deep w 23 (U.narrow z) l
 frame U Add a st deep w h l = two_over deep st w _ h (λ x y r. push_over a r deep w 23 (U.narrow (x +ℤ y)))
@@ -78,33 +72,24 @@ frame U Greater a st deep w h l = two_over deep st w _ h (λ x y r. refl)
 frame U AtMost a st deep w h l = two_over deep st w _ h (λ x y r. refl)
 frame U AtLeast a st deep w h l = two_over deep st w _ h (λ x y r. refl)
 frame U (Jump t) a st deep w h l = refl
-frame U (JumpIfZero t) a [] deep w h l = absurd (none_of 0 h)
+frame U (JumpIfZero t) a [] deep w h l = absurd (omega arith)
 frame U (JumpIfZero t) a (v ∷ st) deep w h l = refl
-
-no_less : (n : ℕ) → n < 0 → ⊥
-no_less n h = omega arith
-
-no_less₁ : (n : ℕ) → suc n < 1 → ⊥
-no_less₁ n h = omega arith
-
-no_less₂ : (n : ℕ) → suc (suc n) < 2 → ⊥
-no_less₂ n h = omega arith
 
 two_few : (st : List ℤ) (w : World) (f : ℤ → ℤ → List ℤ → Step) → length st < 2 → pop_two st w f ≡ faulted (plain 25) w
 two_few [] w f h = refl
 two_few (y ∷ []) w f h = refl
-two_few (y ∷ x ∷ st) w f h = absurd (no_less₂ (length st) (omega arith))
+two_few (y ∷ x ∷ st) w f h = absurd (omega arith)
 
 pub too_few : TooFew
-too_few U (Read n) a st w h = absurd (no_less (length st) h)
-too_few U (Write n) a st w h = absurd (no_less (length st) h)
-too_few U (Load n) a st w h = absurd (no_less (length st) h)
-too_few U (Literal z) a st w h = absurd (no_less (length st) h)
-too_few U (Jump t) a st w h = absurd (no_less (length st) h)
+too_few U (Read n) a st w h = absurd (omega arith)
+too_few U (Write n) a st w h = absurd (omega arith)
+too_few U (Load n) a st w h = absurd (omega arith)
+too_few U (Literal z) a st w h = absurd (omega arith)
+too_few U (Jump t) a st w h = absurd (omega arith)
 too_few U (Store n) a [] w h = refl
-too_few U (Store n) a (v ∷ st) w h = absurd (no_less₁ (length st) (omega arith))
+too_few U (Store n) a (v ∷ st) w h = absurd (omega arith)
 too_few U (JumpIfZero t) a [] w h = refl
-too_few U (JumpIfZero t) a (v ∷ st) w h = absurd (no_less₁ (length st) (omega arith))
+too_few U (JumpIfZero t) a (v ∷ st) w h = absurd (omega arith)
 too_few U Add a st w h = two_few st w _ h
 too_few U Multiply a st w h = two_few st w _ h
 too_few U Subtract a st w h = two_few st w _ h

@@ -58,12 +58,10 @@ pub fn encode(instruction: Instruction) -> Option<u32>
 fn encode_literal(z: i32) -> Option<u32>
     ensures { Encoded (Instruction.Literal z) result }
 {
-    if z < -0x4000_0000 || z >= 0x4000_0000 {
-        None
-    } else if z >= 0 {
-        Some(0x8000_0000 + z as u32)
-    } else {
-        Some((0x1_0000_0000 + z as i64) as u32)
+    match z {
+        0..=0x3FFF_FFFF => Some(0x8000_0000 + z.cast_unsigned()),
+        -0x4000_0000..=-1 => Some(z.cast_unsigned()),
+        _ => None,
     }
 }
 
@@ -72,10 +70,10 @@ pub fn decode(word: u32) -> Option<Instruction>
     ensures { Decoded word result }
 {
     if word >= 0xC000_0000 {
-        return Some(Instruction::Literal((word as i64 - 0x1_0000_0000) as i32));
+        return Some(Instruction::Literal(word.cast_signed()));
     }
     if word >= 0x8000_0000 {
-        return Some(Instruction::Literal((word - 0x8000_0000) as i32));
+        return Some(Instruction::Literal((word - 0x8000_0000).cast_signed()));
     }
     let operand = (word % 0x1_0000) as u16;
     match word / 0x1_0000 {
@@ -111,37 +109,29 @@ fn operation(number: u16) -> Option<Instruction>
 }
 
 // The words of instructions are their own, and decoding undoes encoding.
-pub fn one_word_each() -> u8
+pub fn one_word_each()
     ensures each { OneWordEach }
     ensures examples { Examples }
-{
-    0
-}
+{}
 
 // Division rounds down, and its remainder has the divisor's sign.
-pub fn rounds_down() -> u8
+pub fn rounds_down()
     ensures { RoundsDown }
-{
-    0
-}
+{}
 
 // How the machine's instructions use the stack.
-pub fn stack_laws() -> u8
+pub fn stack_laws()
     ensures frame { Frame }
     ensures few { TooFew }
     ensures full { Full }
     ensures jumps { Jumps }
-{
-    0
-}
+{}
 
 // What holds of advances, whatever the code.
-pub fn advances_add_up() -> u8
+pub fn advances_add_up()
     ensures together { AdvancesAddUp }
     ensures within { AdvancesStayWithin }
-{
-    0
-}
+{}
 
 #[cfg(test)]
 mod tests {

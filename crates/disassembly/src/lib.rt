@@ -49,15 +49,15 @@ pub struct Position {
 pub fn position_of(source: &[u8], place: usize) -> Position
     ensures { (result.line, result.column) ≡ position (take place source.now) }
 {
-    let mut line = 1;
-    let mut column = 1;
-    for i in 0..place.min(source.len()) {
-        if source[i] == b'\n' {
-            line += 1;
-            column = 1;
+    let before = &source[..place.min(source.len())];
+    let mut position = Position { line: 1, column: 1 };
+    for byte in before {
+        if *byte == b'\n' {
+            position.line += 1;
+            position.column = 1;
         } else {
-            column += 1;
+            position.column += 1;
         }
     }
-    Position { line, column }
+    position
 }

@@ -1,54 +1,55 @@
--- One word more of an admission.
-use Rattle.std.proofs.Common.{◌≡◌, ℕ, ◌+◌, ◌<◌, Bool, true, false, ◌&&◌, List, [], ◌∷◌, ◌++◌, length, get_or, take, sym, refl, ap, ◌∙◌, arith}
-use Rattle.std.specs.List.{AllByRecursion}
-use Rattle.std.proofs.lemmas.List.{take_more, map_push}
+-- The first instruction outside.
+use Rattle.std.proofs.Common.{◌≡◌, ℕ, ◌+◌, ◌-◌, ◌≤◌, true, false, not, cond, List, [], ◌∷◌, length, Some, None, Option, position, sym, refl, ap, ◌∙◌, subst, arith}
+use Rattle.std.specs.List.{position_from}
+use Rattle.std.proofs.lemmas.Bool.{and_from}
+use Rattle.std.proofs.lemmas.Iterator.Adapters.{position_from-zero}
+use Rattle.std.proofs.lemmas.List.{length-map}
 use Rattle.code.specs.declared.Instruction.{Instruction}
-use Rattle.code.specs.Words.{word_of, InRange}
-use Rattle.image.specs.Bounds.{inside, all_inside}
+use Rattle.code.specs.Words.{word_of}
+use Rattle.image.specs.Bounds.{inside, is_outside, all_inside}
 use Rattle.image.specs.Admission.{Decodes, FirstOutside}
 
-pub and_left : (a b : Bool) → (a && b) ≡ true → a ≡ true
-and_left true b e = refl
-and_left false b e = e
+module _ (len : ℕ) where
+  -- what a search of instructions that stand from a place on answers
+  abbrev Found : ℕ → List Instruction → Option ℕ → Type 0
+  Found n is None = all_inside len is ≡ true
+  Found n is (Some k) = (n ≤ k) × FirstOutside len is (k - n + 1)
 
-pub and_right : (a b : Bool) → (a && b) ≡ true → b ≡ true
-and_right true b e = e
-and_right false b e = let z : ◌≡◌ {A = ℕ} 0 1 = cc in absurd (omega arith)
+  later : (n : ℕ) (i : Instruction) (is : List Instruction) → inside len i ≡ true → (o : Option ℕ) → Found (n + 1) is o → Found n (i ∷ is) o
+  later n i is e None h = and_from (inside len i) (all_inside len is) e h
+  later n i is e (Some k) h =
+      let l : n + 1 ≤ k = h.0 in
+      let f : FirstOutside len is (k - (n + 1) + 1) = h.1 in (
+        omega arith,
+        record {
+          before = i ∷ f.before;
+          here = f.here;
+          after = f.after;
+          parts = ap (λ js. i ∷ js) f.parts;
+          place = omega (arith, l, f.place);
+          good = and_from (inside len i) (all_inside len f.before) e f.good;
+          bad = f.bad;
+        },
+      )
 
-all_push : (is : List Instruction) (i : Instruction) → AllByRecursion InRange is → InRange i → AllByRecursion InRange (is ++ i ∷ [])
-all_push [] i a h = (h, tt)
-all_push (j ∷ js) i a h = (a.0, all_push js i a.1 h)
+  found : (n : ℕ) (is : List Instruction) → Found n is (position_from (is_outside len) n is)
+  found n [] = refl
+  found n (i ∷ is) =
+      elim (inside len i) as (λ b. inside len i ≡ b → Found n (i ∷ is) (cond (not b) (Some n) (position_from (is_outside len) (n + 1) is))) [
+        | true ↦ (λ e. later n i is e (position_from (is_outside len) (n + 1) is) (found (n + 1) is))
+        | false ↦ (λ e. (omega arith, record { before = []; here = i; after = is; parts = refl; place = omega arith; good = refl; bad = e }))
+      ] refl
 
-pub decodes_push : (ws : List ℕ) (is : List Instruction) (k : ℕ) (i : Instruction) → k < length ws → Decodes (take k ws) is → InRange i → word_of i ≡ get_or ws k 0 → Decodes (take (k + 1) ws) (is ++ i ∷ [])
-decodes_push ws is k i l h r e =
-    record {
-      words = map_push word_of is i ∙ ap (λ x. x ++ word_of i ∷ []) h.words ∙ ap (λ w. take k ws ++ w ∷ []) e ∙ sym (take_more ws k 0 l);
-      ranges = all_push is i h.ranges r;
-    }
+  at_start : (is : List Instruction) (o : Option ℕ) → o ≡ position (is_outside len) is → Found 0 is o
+  at_start is o e = subst (Found 0 is) (sym (e ∙ position_from-zero (is_outside len) is)) (found 0 is)
 
--- an inside instruction after good ones
-pub checked_good : (len : ℕ) (is : List Instruction) (i : Instruction) → all_inside len is ≡ true → inside len i ≡ true → all_inside len (is ++ i ∷ []) ≡ true
-checked_good len [] i h e = ap (λ b. b && true) e
-checked_good len (j ∷ js) i h e =
-    ap (λ b. b && all_inside len (js ++ i ∷ [])) (and_left (inside len j) (all_inside len js) h) ∙ checked_good len js i (and_right (inside len j) (all_inside len js) h) e
+  pub none_found : (is : List Instruction) → None ≡ position (is_outside len) is → all_inside len is ≡ true
+  none_found is e = at_start is None e
 
-append_on : (xs ys zs : List Instruction) → (xs ++ ys) ++ zs ≡ xs ++ (ys ++ zs)
-append_on [] ys zs = refl
-append_on (x ∷ xs) ys zs = ap (λ l. x ∷ l) (append_on xs ys zs)
+  pub first_found : (is : List Instruction) (k : ℕ) → Some k ≡ position (is_outside len) is → FirstOutside len is (k + 1)
+  first_found is k e =
+      let same : k - 0 + 1 ≡ k + 1 = omega arith in
+      subst (FirstOutside len is) same (at_start is (Some k) e).1
 
--- an instruction after the first outside one
-pub checked_later : (len : ℕ) (is : List Instruction) (i : Instruction) (k : ℕ) → FirstOutside len is k → FirstOutside len (is ++ i ∷ []) k
-checked_later len is i k h =
-    record {
-      before = h.before;
-      here = h.here;
-      after = h.after ++ i ∷ [];
-      parts = ap (λ l. l ++ i ∷ []) h.parts ∙ append_on h.before (h.here ∷ h.after) (i ∷ []);
-      place = h.place;
-      good = h.good;
-      bad = h.bad;
-    }
-
--- an outside instruction after good ones
-pub checked_first : (len : ℕ) (is : List Instruction) (i : Instruction) (k : ℕ) → length is + 1 ≡ k → all_inside len is ≡ true → inside len i ≡ false → FirstOutside len (is ++ i ∷ []) k
-checked_first len is i k l h e = record { before = is; here = i; after = []; parts = refl; place = l; good = h; bad = e }
+pub as_long : (ws : List ℕ) (is : List Instruction) → Decodes ws is → length is ≡ length ws
+as_long ws is d = sym (length-map is word_of) ∙ ap length d.words

@@ -2,11 +2,10 @@
 --   Decodes         these are the instructions whose words those are
 --   FirstNone       the first word that is no instruction's has this address
 --   FirstOutside    the first instruction whose cell or target does not exist has this address
---   Checked         the first address outside, or none
 --   Outside         all words are instructions', and that is the first outside
 --   Admitted        the instructions of an image for these words
 --   Refuses         what each refusal says of the words
-use Rattle.std.specs.Prelude.{◌≡◌, ℕ, ◌+◌, ◌-◌, ◌<◌, ◌≤◌, true, false, List, ◌∷◌, ◌++◌, map, length, take, Some, None, Option, ◌≢◌, slice_index}
+use Rattle.std.specs.Prelude.{◌≡◌, ℕ, ◌+◌, ◌-◌, ◌<◌, ◌≤◌, true, false, List, ◌∷◌, ◌++◌, map, length, take, ◌≢◌, slice_index}
 use Rattle.std.specs.List.{AllByRecursion}
 use Rattle.code.specs.declared.Instruction.{Instruction}
 use Rattle.code.specs.Words.{word_of, InRange}
@@ -32,11 +31,6 @@ pub record FirstOutside (len : ℕ) (is : List Instruction) (k : ℕ) : Type 0 w
   pub place : length before + 1 ≡ k
   pub good : all_inside len before ≡ true
   pub bad : inside len here ≡ false
-
--- the answer to whether all are inside
-abbrev pub Checked : ℕ → List Instruction → Option ℕ → Type 0
-Checked len is None = all_inside len is ≡ true
-Checked len is (Some k) = FirstOutside len is k
 
 pub record Outside (ws : List ℕ) (k : ℕ) : Type 0 where
   pub instructions : List Instruction

@@ -2,8 +2,9 @@
 --   cell_exists    cells are numbered 1 to 64
 --   target_exists  a jump goes to an address of the code, or to the one after it
 --   inside         the cell or target of an instruction exists, where the code has so many instructions
+--   is_outside     it does not exist
 --   all_inside     those of all instructions do
-use Rattle.std.specs.Prelude.{ℕ, ◌+◌, Bool, true, ◌&&◌, List, [], ◌∷◌, nat_le}
+use Rattle.std.specs.Prelude.{ℕ, ◌+◌, Bool, true, not, ◌&&◌, List, [], ◌∷◌, nat_le}
 use Rattle.code.specs.declared.Instruction.{Instruction}
 use Rattle.code.specs.declared.Instruction.TheVariants.{Literal, Read, Write, Load, Store, Jump, JumpIfZero, Add, Subtract, Multiply, Divide, Modulo, Less, Equal, Unequal, Greater, AtMost, AtLeast}
 
@@ -32,6 +33,9 @@ inside len Unequal = true
 inside len Greater = true
 inside len AtMost = true
 inside len AtLeast = true
+
+abbrev pub is_outside : ℕ → Instruction → Bool
+is_outside len i = not (inside len i)
 
 abbrev pub all_inside : ℕ → List Instruction → Bool
 all_inside len [] = true

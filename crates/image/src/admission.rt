@@ -1,8 +1,7 @@
 // From words to an image.
-ghost use Rattle.std.specs.Prelude.{◌≡◌, ◌+◌, ◌≤◌, List, [], ◌∷◌, ◌++◌, length, MatchResult};
-ghost use Rattle.code.specs.declared.Instruction.{Instruction};
-ghost use Rattle.image.specs.Bounds.{cell_exists, target_exists, inside};
-ghost use Rattle.image.specs.Admission.{Checked, Admitted, Refuses};
+ghost use Rattle.std.specs.Prelude.{◌≡◌, ◌<◌, ◌≤◌, length, position, IfSome, MatchResult};
+ghost use Rattle.image.specs.Bounds.{cell_exists, target_exists, inside, is_outside};
+ghost use Rattle.image.specs.Admission.{Decodes, Admitted, Refuses};
 
 use crate::admitted::Image;
 use crate::refusals::Refusal;
@@ -13,48 +12,50 @@ use std::alloc::Global;
 fn has_cell(n: u16) -> bool
     ensures { result ≡ cell_exists n }
 {
-    1 <= n && n <= 64
+    (1..=64).contains(&n)
 }
 
 // Whether a jump's target exists in code of a length, or is its end.
 fn has_target(n: u16, len: usize) -> bool
-    requires { len ≤ 4096 }
     ensures { result ≡ target_exists len n }
 {
-    1 <= n && usize::from(n) <= len + 1
+    1 <= n && usize::from(n - 1) <= len
 }
 
 // Whether an instruction's cell or target exists in code of a length.
 fn is_inside(instruction: Instruction, len: usize) -> bool
-    requires { len ≤ 4096 }
     ensures { result ≡ inside len instruction }
 {
     match instruction {
-        Instruction::Read(n) => has_cell(n),
-        Instruction::Write(n) => has_cell(n),
-        Instruction::Load(n) => has_cell(n),
-        Instruction::Store(n) => has_cell(n),
-        Instruction::Jump(n) => has_target(n, len),
-        Instruction::JumpIfZero(n) => has_target(n, len),
+        Instruction::Read(n)
+        | Instruction::Write(n)
+        | Instruction::Load(n)
+        | Instruction::Store(n) => has_cell(n),
+        Instruction::Jump(n) | Instruction::JumpIfZero(n) => has_target(n, len),
         _ => true,
     }
 }
 
-// The first address outside: the one found before, or this instruction's.
-fn first_outside(
-    found: Option<usize>,
-    instruction: Instruction,
-    address: usize,
-    len: usize,
-) -> Option<usize>
-    requires { len ≤ 4096 }
-    ensures { (is : List Instruction) → length is + 1 ≡ address → Checked len is found → Checked len (is ++ instruction ∷ []) result }
+// The place, from 0, of the first instruction whose cell or target does not exist.
+fn first_outside(code: &[Instruction]) -> Option<usize>
+    ensures value { result ≡ position (is_outside (length code.now)) code.now }
+    ensures within { IfSome result (λ place. place < length code.now) }
 {
-    match found {
-        Some(earlier) => Some(earlier),
-        None if is_inside(instruction, len) => None,
-        None => Some(address),
+    let len = code.len();
+    code.iter().position(|i| !is_inside(*i, len))
+}
+
+// The instructions of these words, or the first word that is none.
+fn decode_all(heap: Global, words: &[u32]) -> Result<Vec<Instruction>, Refusal>
+    requires { length words.now ≤ 4096 }
+    ensures { MatchResult result (λ code. Decodes words.now code.items) (λ e. Refuses words.now e) }
+{
+    let mut code = Vec::with_capacity(heap, words.len())?;
+    for (k, word) in words.iter().enumerate() {
+        let instruction = decode(*word).ok_or(Refusal::NotInstruction(k + 1))?;
+        code.push_reserved(instruction);
     }
+    Ok(code)
 }
 
 // The image of these words. The first question answered no gives the refusal: are there at most 4,096, is each an
@@ -62,21 +63,12 @@ fn first_outside(
 pub fn admit(heap: Global, words: &[u32]) -> Result<Image, Refusal>
     ensures { MatchResult result (λ image. Admitted words.now image.code.items) (λ e. Refuses words.now e) }
 {
-    let len = words.len();
-    if len > 4096 {
+    if words.len() > 4096 {
         return Err(Refusal::TooLong);
     }
-    let mut code = Vec::with_capacity(heap, len)?;
-    let mut outside = None;
-    for (k, word) in words.iter().enumerate() {
-        let Some(instruction) = decode(*word) else {
-            return Err(Refusal::NotInstruction(k + 1));
-        };
-        outside = first_outside(outside, instruction, k + 1, len);
-        code.push_reserved(instruction);
-    }
-    match outside {
-        Some(address) => Err(Refusal::OutOfBounds(address)),
+    let code = decode_all(heap, words)?;
+    match first_outside(code.as_slice()) {
+        Some(place) => Err(Refusal::OutOfBounds(place + 1)),
         None => Ok(Image { code }),
     }
 }

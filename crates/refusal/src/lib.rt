@@ -17,9 +17,7 @@ impl fmt::Display for Refused {
     ghost output = { λ x. Some (sentence x.number x.place) };
 
     fn fmt<W: fmt::Write>(&self, f: &mut fmt::Formatter<W>) -> fmt::Result {
-        let number = self.number;
-        let place = self.place;
-        write!(f, "refused {number} at {place}")
+        write!(f, "refused {} at {}", self.number, self.place)
     }
 }
 

@@ -40,7 +40,7 @@ pub fn drive<U: Arithmetic, I: InputTape, O: OutputTape>(
     ensures last { LastOf allowances.now result.last (status_number result.finished.status) }
     ensures rest { (O.means result.finished.output).rest ≡ length (O.means result.finished.output).written }
 {
-    let _ = one_word_each();
+    one_word_each();
     let mut run = Run::start(image, unit, input, output, lid);
     let mut steps = 0;
     let mut last = None;

@@ -12,12 +12,12 @@ pub fn calls_mean_sources()
     ensures calls { CallsMeanSources }
     ensures drives { DrivesMeanSources }
 {
-    let _ = one_word_each();
+    one_word_each();
 }
 
 // What is accepted is always admitted.
 pub fn accepted_code_is_admitted()
     ensures { AlwaysAdmitted }
 {
-    let _ = one_word_each();
+    one_word_each();
 }

@@ -3,12 +3,14 @@
 #![tactic(auto)]
 
 use code::Instruction;
+use disassembly::Mnemonic;
 use image::admission::admit;
+use image::admitted::Image;
 use machine::run::Run;
 use refusal::Refused;
 use std::alloc::Global;
 use std::io::{Read, Write};
-use std::{fs, io};
+use std::{fmt, fs, io};
 use texts::input::TextInput;
 use texts::output::TextOutput;
 use units::strict::Strict;
@@ -18,73 +20,53 @@ const LID: u64 = 100;
 
 type Traced<'a> = Run<'a, Strict, TextInput, TextOutput>;
 
+// The stack from its top, or ε.
+#[derive(Clone, Copy)]
+struct Stack<'a, 'b>(&'a Traced<'b>);
+
+impl fmt::Display for Stack<'_, '_> {
+    fn fmt<W: fmt::Write>(&self, f: &mut fmt::Formatter<W>) -> fmt::Result {
+        let Some(top) = self.0.word(0) else {
+            return write!(f, "ε");
+        };
+        write!(f, "{top}")?;
+        for word in (1..68).map_while(|place| self.0.word(place)) {
+            write!(f, ":{word}")?;
+        }
+        Ok(())
+    }
+}
+
+// The cells that are set, by their numbers.
+#[derive(Clone, Copy)]
+struct Cells<'a>(&'a [Option<i32>]);
+
+impl fmt::Display for Cells<'_> {
+    fn fmt<W: fmt::Write>(&self, f: &mut fmt::Formatter<W>) -> fmt::Result {
+        let mut comma = "";
+        write!(f, "[")?;
+        for (k, cell) in self.0.iter().enumerate() {
+            if let Some(v) = cell {
+                write!(f, "{comma}{}/{v}", k + 1)?;
+                comma = ",";
+            }
+        }
+        write!(f, "]")
+    }
+}
+
 // The words of a text, in decimal, one to a line.
 fn words(heap: Global, text: &str) -> anyhow::Result<Vec<u32>> {
-    let mut all = Vec::new(heap);
-    for line in text.lines() {
-        all.push(line.parse::<u32>()?)?;
-    }
-    Ok(all)
-}
-
-fn print_stack(rt: &HostRuntime, run: &Traced<'_>) -> io::Result<()> {
-    if run.word(0).is_none() {
-        return print!(rt; "ε");
-    }
-    for place in 0..68 {
-        if let Some(v) = run.word(place) {
-            let colon = if place == 0 { "" } else { ":" };
-            print!(rt; "{colon}{v}")?;
-        }
-    }
-    Ok(())
-}
-
-fn print_cells(rt: &HostRuntime, run: &Traced<'_>) -> io::Result<()> {
-    let mut comma = "";
-    print!(rt; "[")?;
-    for (k, cell) in run.cells().iter().enumerate() {
-        if let Some(v) = cell {
-            let n = k + 1;
-            print!(rt; "{comma}{n}/{v}")?;
-            comma = ",";
-        }
-    }
-    print!(rt; "]")
-}
-
-fn print_instruction(rt: &HostRuntime, instruction: Instruction) -> io::Result<()> {
-    match instruction {
-        Instruction::Literal(z) => print!(rt; " LIT {z}"),
-        Instruction::Read(n) => print!(rt; " READ {n}"),
-        Instruction::Write(n) => print!(rt; " WRITE {n}"),
-        Instruction::Load(n) => print!(rt; " LOAD {n}"),
-        Instruction::Store(n) => print!(rt; " STORE {n}"),
-        Instruction::Jump(n) => print!(rt; " JMP {n}"),
-        Instruction::JumpIfZero(n) => print!(rt; " JMC {n}"),
-        Instruction::Add => print!(rt; " ADD"),
-        Instruction::Subtract => print!(rt; " SUB"),
-        Instruction::Multiply => print!(rt; " MUL"),
-        Instruction::Divide => print!(rt; " DIV"),
-        Instruction::Modulo => print!(rt; " MOD"),
-        Instruction::Less => print!(rt; " LT"),
-        Instruction::Equal => print!(rt; " EQ"),
-        Instruction::Unequal => print!(rt; " NE"),
-        Instruction::Greater => print!(rt; " GT"),
-        Instruction::AtMost => print!(rt; " LE"),
-        Instruction::AtLeast => print!(rt; " GE"),
-    }
+    text.lines()
+        .map(|line| Ok(line.parse::<u32>()?))
+        .try_collect(heap)
 }
 
 fn print_state(rt: &HostRuntime, run: &Traced<'_>, code: &[Instruction]) -> io::Result<()> {
     let address = run.counter();
-    print!(rt; "( {address} , ")?;
-    print_stack(rt, run)?;
-    print!(rt; " , ")?;
-    print_cells(rt, run)?;
-    print!(rt; " )")?;
+    print!(rt; "( {address} , {} , {} )", Stack(run), Cells(run.cells()))?;
     if let Some(instruction) = code.get(address.saturating_sub(1)) {
-        print_instruction(rt, *instruction)?;
+        print!(rt; " {}", Mnemonic(*instruction))?;
     }
     println!(rt; "")
 }
@@ -93,21 +75,19 @@ fn print_state(rt: &HostRuntime, run: &Traced<'_>, code: &[Instruction]) -> io::
 fn trace(rt: &HostRuntime, run: &mut Traced<'_>, code: &[Instruction]) -> anyhow::Result<()> {
     for _ in 0..=LID {
         print_state(rt, run, code)?;
-        let told = run.advance(1);
-        if told.steps == 0 {
+        if run.advance(1).steps == 0 {
             break;
         }
     }
     rt.stdout().write_all(run.output().text())?;
-    let steps = run.steps();
-    let status = run.advance(0).status.number();
-    println!(rt; "{steps} {status}")?;
+    let status = run.advance(0).status;
+    println!(rt; "{} {}", run.steps(), status.number())?;
     Ok(())
 }
 
-fn refuse(rt: &HostRuntime, refused: Refused) -> anyhow::Result<()> {
-    println!(rt; "{refused}")?;
-    Ok(())
+// The image of the words and the tape over the text, or the first refusal.
+fn admitted(heap: Global, words: &[u32], text: Vec<u8>) -> Result<(Image, TextInput), Refused> {
+    Ok((admit(heap, words)?, TextInput::new(text)?))
 }
 
 fn main(rt: HostRuntime) -> anyhow::Result<()> {
@@ -115,13 +95,9 @@ fn main(rt: HostRuntime) -> anyhow::Result<()> {
     let words = words(rt.alloc(), text.as_str())?;
     let mut bytes = Vec::new(rt.alloc());
     rt.stdin().read_to_end(&mut bytes)?;
-    let image = match admit(rt.alloc(), words.as_slice()) {
-        Ok(image) => image,
-        Err(e) => return refuse(&rt, Refused::from(e)),
-    };
-    let input = match TextInput::new(bytes) {
-        Ok(input) => input,
-        Err(e) => return refuse(&rt, Refused::from(e)),
+    let (image, input) = match admitted(rt.alloc(), words.as_slice(), bytes) {
+        Ok(both) => both,
+        Err(refused) => return Ok(rt.println(refused)?),
     };
     let output = TextOutput::new(vec![in rt.alloc(); 0; 120]?);
     let mut run = Run::start(&image, Strict, input, output, LID);

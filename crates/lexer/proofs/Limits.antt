@@ -1,6 +1,8 @@
 -- Numbers cut above the greatest: where none is too large, nothing was cut.
-use Rattle.std.proofs.Common.{◌≡◌, ℕ, ◌+◌, ◌<◌, ◌≤◌, min, Bool, true, false, cond, List, [], ◌∷◌, map, length, get_or, drop, Some, None, Option, sym, refl, ap, ◌∙◌, subst, arith, length-append}
-use Rattle.std.specs.List.{AllByRecursion}
+use Rattle.std.proofs.Common.{◌≡◌, ℕ, zero, suc, ◌+◌, ◌<◌, ◌≤◌, min, Bool, true, false, cond, List, [], ◌∷◌, map, length, get_or, drop, Some, None, Option, sym, refl, ap, ◌∙◌, subst, arith, length-append}
+use denote.Ref.{Bor}
+use Rattle.std.specs.Option.{MatchOption, option_map}
+use Rattle.std.specs.List.{AllByRecursion, AllWithin, HoldsAt}
 use Rattle.std.proofs.lemmas.Bool.{le-ltb, lt-ltb, ltb-false}
 use Rattle.std.proofs.lemmas.Bool.Decides.{nat_tests}
 use Rattle.std.proofs.ByRecursion.{All-map, All-get_or}
@@ -54,11 +56,29 @@ tokens_of_lem : (s : List ℕ) (ts : List coded.Token) → tokens (lexemes_of s 
 tokens_of_lem s [] = refl
 tokens_of_lem s (t ∷ ts) = ap (λ us. token_of s t ∷ us) (tokens_of_lem s ts)
 
--- the first of the tokens that are left, t saying whether it is too large
-pub large_step : (s : List ℕ) (ts : List coded.Token) (i : ℕ) (d : coded.Token) (t : Bool) → i < length ts → AllByRecursion (Within s) ts → (Within s (get_or ts i d) → t ≡ too_large (token_of s (get_or ts i d)).kind) → first_too_large (tokens_of s (drop i ts)) ≡ cond t (Some (get_or ts i d).place) (first_too_large (tokens_of s (drop (i + 1) ts)))
-large_step s ts i d t h all is =
-    at_drop_more (λ us. first_too_large (tokens_of s us)) ts i d h
-    ∙ ap (λ b. cond b (Some (get_or ts i d).place) (first_too_large (tokens_of s (drop (i + 1) ts)))) (sym (is (All-get_or (Within s) ts i d h all)))
+-- the code's test of a token gives b
+abbrev pub Large : coded.Token → Bool → Type 0
+Large t b = (s : List ℕ) → Within s t → b ≡ too_large (token_of s t).kind
+
+none_large : (s : List ℕ) (ts : List coded.Token) → AllByRecursion (Within s) ts → AllWithin (λ t. Large t false) ts 0 (length ts) → None ≡ first_too_large (tokens_of s ts)
+none_large s [] all small = refl
+none_large s (t ∷ ts) all small =
+    none_large s ts all.1 (λ k d a b. small (suc k) d (omega arith) (omega arith))
+    ∙ ap (λ b. cond b (Some t.place) (first_too_large (tokens_of s ts))) (small 0 t (omega arith) (omega arith) s all.0)
+
+first_large : (s : List ℕ) (ts : List coded.Token) (x : coded.Token) (i : ℕ) → AllByRecursion (Within s) ts → i < length ts → HoldsAt (λ t. t ≡ x) ts i → AllWithin (λ t. Large t false) ts 0 i → Large x true → Some x.place ≡ first_too_large (tokens_of s ts)
+first_large s [] x i all h here small large = absurd (omega arith)
+first_large s (t ∷ ts) x zero all h here small large =
+    let P : coded.Token → Type 0 = λ u. Large u true in
+    ap (λ u. Some u.place) (sym (here t)) ∙ ap (λ b. cond b (Some t.place) (first_too_large (tokens_of s ts))) (subst P (sym (here t)) large s all.0)
+first_large s (t ∷ ts) x (suc i) all h here small large =
+    first_large s ts x i all.1 (omega arith) here (λ k d a b. small (suc k) d (omega arith) (omega arith)) large
+    ∙ ap (λ b. cond b (Some t.place) (first_too_large (tokens_of s ts))) (small 0 t (omega arith) (omega arith) s all.0)
+
+-- what a search by that test finds
+pub found_large : (s : List ℕ) (ts : List coded.Token) (o : Option (Bor coded.Token)) → AllByRecursion (Within s) ts → MatchOption o (AllWithin (λ t. Large t false) ts 0 (length ts)) (λ x. Large x.now true × (i : ℕ) × (i < length ts) × HoldsAt (λ t. t ≡ x.now) ts i × AllWithin (λ t. Large t false) ts 0 i) → option_map (λ x. x.now.place) o ≡ first_too_large (tokens_of s ts)
+found_large s ts None all h = none_large s ts all h
+found_large s ts (Some x) all h = first_large s ts x.now h.1 all h.2 h.3 h.4 h.0
 
 reads_within : {q : ℕ} {rest : List ℕ} {p : ℕ} {bs : List ℕ} {ls : List Lexeme} (n : ℕ) → p + length bs ≤ n → Reads q rest p bs ls → AllByRecursion (λ l. l.token.place + l.length ≤ n) ls
 reads_within n h done = tt

@@ -33,3 +33,8 @@ pub run_is : (p : ℕ → Bool) (w rest : List ℕ) → AllByRecursion (λ b. p 
 run_is p [] rest all stops = run_none p rest stops
 run_is p (b ∷ w) rest all stops =
     ap (λ t. cond t (1 + prefix_len p (w ++ rest)) 0) all.0 ∙ ap (λ n. 1 + n) (run_is p w rest all.1 stops) ∙ one-add (length w)
+
+-- two tests that agree on each byte
+pub run_same : (p q : ℕ → Bool) (bs : List ℕ) → ((b : ℕ) → p b ≡ q b) → prefix_len p bs ≡ prefix_len q bs
+run_same p q [] same = refl
+run_same p q (b ∷ bs) same = (λ i. cond (same b i) (1 + run_same p q bs same i) 0)

@@ -1,17 +1,13 @@
-use Rattle.std.proofs.Common.{true, false, sym, ◌∙◌}
-use Rattle.std.proofs.lemmas.List.{at_drop_all}
-use Rattle.syntax.specs.Tokens.{tokens_of}
-use Rattle.lexer.specs.Lex.{first_too_large}
-use Rattle.lexer.proofs.Limits.{large_step}
+use Rattle.std.proofs.Common.{◌≡◌, true, false, ◌∙◌, rules, tests}
+use Rattle.std.specs.Option.{option_map}
+use Rattle.std.proofs.lemmas.Iterator.{YieldsList-from_slice, first_from_find}
+use Rattle.lexer.proofs.Limits.{Large, found_large}
 use Rattle.lexer.proofs.first_too_large.Goals as goal
 
-pub loop-token-preserved : goal.loop-token-preserved
-loop-token-preserved c =
-    λ s all. c.loop-token.invariant s all ∙ large_step s c.args.tokens.now c.loop-token.token-index _ false c.loop-token-test.true all (c.if-is_too_large.ensures s)
-
-pub returns-then-is_too_large : goal.returns-then-is_too_large
-returns-then-is_too_large c =
-    λ s all. sym (c.loop-token.invariant s all ∙ large_step s c.args.tokens.now c.loop-token.token-index _ true c.loop-token-test.true all (c.if-is_too_large.ensures s))
-
 pub returns : goal.returns
-returns c = λ s all. sym (c.loop-token.invariant s all ∙ at_drop_all (λ ts. first_too_large (tokens_of s ts)) c.args.tokens.now c.loop-token.token-index c.loop-token-test.false)
+returns c =
+    λ s all.
+    let ts = c.args.tokens.now in
+    let found = first_from_find _ _ c.find.result (λ t. Large t true) (λ t. Large t false) c.find.ensures.ran (YieldsList-from_slice ts (cc)) (λ x q k. search (rules, tests)) (λ x q k. search (rules, tests)) in
+    let place : c.map.result ≡ option_map (λ x. x.now.place) c.find.result = search rules in
+    place ∙ found_large s ts c.find.result all found

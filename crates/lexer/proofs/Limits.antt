@@ -1,18 +1,19 @@
 -- Numbers cut above the greatest: where none is too large, nothing was cut.
-use Rattle.std.proofs.Common.{◌≡◌, ℕ, zero, suc, ◌+◌, ◌<◌, ◌≤◌, min, Bool, true, false, cond, List, [], ◌∷◌, map, length, get_or, drop, Some, None, Option, sym, refl, ap, ◌∙◌, subst, arith, length-append}
-use denote.Ref.{Bor}
-use Rattle.std.specs.Option.{MatchOption, option_map}
-use Rattle.std.specs.List.{AllByRecursion, AllWithin, HoldsAt}
+use Rattle.std.proofs.Common.{◌≡◌, ℕ, ◌+◌, ◌<◌, ◌≤◌, min, Bool, true, false, cond, ltb, List, [], ◌∷◌, map, length, take, drop, replicate, Some, None, Option, sym, refl, ap, ◌∙◌, subst, arith, length-append, length-drop}
+use Rattle.std.specs.Option.{option_map}
+use Rattle.std.specs.List.{AllByRecursion, find}
 use Rattle.std.proofs.lemmas.Bool.{le-ltb, lt-ltb, ltb-false}
 use Rattle.std.proofs.lemmas.Bool.Decides.{nat_tests}
-use Rattle.std.proofs.ByRecursion.{All-map, All-get_or}
-use Rattle.std.proofs.lemmas.List.{at_drop_more}
+use Rattle.std.proofs.ByRecursion.{All-map}
+use Rattle.std.proofs.lemmas.List.{length-take-le, length-replicate}
 use Rattle.syntax.specs.declared.token.Token as coded
-use Rattle.syntax.specs.Tokens.{Kind, mark, name, number, relation, additive, multiplicative, token_of, tokens_of}
+use Rattle.syntax.specs.declared.token.Kind as coded-kind
+use Rattle.syntax.specs.declared.token.Kind.TheVariants as code
+use Rattle.syntax.specs.Tokens.{Name, Kind, mark, name, number, relation, additive, multiplicative, kind_of, token_of, tokens_of}
 use Rattle.lexer.specs.declared.refusal.Refusal.{Refusal}
 use Rattle.lexer.specs.declared.refusal.Refusal.TheVariants as refusal
 use Rattle.lexer.specs.Scan.{limited_kind}
-use Rattle.lexer.specs.Lex.{Lexeme, lexeme, tokens, Lexed, good, stray, lexing, too_large, first_too_large, answer, accepted, refused, sized, read, lexeme_of, lexemes_of, Within, limited_lexeme, limited_all, Strays, Refuses}
+use Rattle.lexer.specs.Lex.{Lexeme, lexeme, tokens, Lexed, good, stray, lexing, too_large, coded_too_large, first_too_large, answer, accepted, refused, sized, read, lexeme_of, lexemes_of, Within, limited_lexeme, limited_all, Strays, Refuses}
 use Rattle.lexer.specs.Reading.{Reads, done, blank, token, Reading}
 use Rattle.lexer.proofs.Reading.{source_reading}
 
@@ -56,29 +57,29 @@ tokens_of_lem : (s : List ℕ) (ts : List coded.Token) → tokens (lexemes_of s 
 tokens_of_lem s [] = refl
 tokens_of_lem s (t ∷ ts) = ap (λ us. token_of s t ∷ us) (tokens_of_lem s ts)
 
--- the code's test of a token gives b
-abbrev pub Large : coded.Token → Bool → Type 0
-Large t b = (s : List ℕ) → Within s t → b ≡ too_large (token_of s t).kind
+same_size : (k : coded-kind.Kind) (v w : Name) → length v ≡ length w → too_large (kind_of k v) ≡ too_large (kind_of k w)
+same_size (code.Mark m) v w e = refl
+same_size code.Name v w e = ap (ltb 16) e
+same_size (code.Number n) v w e = refl
+same_size (code.Relation r) v w e = refl
+same_size (code.Additive a) v w e = refl
+same_size (code.Multiplicative m) v w e = refl
 
-none_large : (s : List ℕ) (ts : List coded.Token) → AllByRecursion (Within s) ts → AllWithin (λ t. Large t false) ts 0 (length ts) → None ≡ first_too_large (tokens_of s ts)
-none_large s [] all small = refl
-none_large s (t ∷ ts) all small =
-    none_large s ts all.1 (λ k d a b. small (suc k) d (omega arith) (omega arith))
-    ∙ ap (λ b. cond b (Some t.place) (first_too_large (tokens_of s ts))) (small 0 t (omega arith) (omega arith) s all.0)
+coded_is : (s : List ℕ) (t : coded.Token) → Within s t → coded_too_large t ≡ too_large (token_of s t).kind
+coded_is s t within =
+    same_size t.kind (replicate t.length 0) (take t.length (drop t.place s))
+    (length-replicate t.length 0 ∙ sym (length-take-le t.length (drop t.place s) (omega (arith, length-drop t.place s))))
 
-first_large : (s : List ℕ) (ts : List coded.Token) (x : coded.Token) (i : ℕ) → AllByRecursion (Within s) ts → i < length ts → HoldsAt (λ t. t ≡ x) ts i → AllWithin (λ t. Large t false) ts 0 i → Large x true → Some x.place ≡ first_too_large (tokens_of s ts)
-first_large s [] x i all h here small large = absurd (omega arith)
-first_large s (t ∷ ts) x zero all h here small large =
-    let P : coded.Token → Type 0 = λ u. Large u true in
-    ap (λ u. Some u.place) (sym (here t)) ∙ ap (λ b. cond b (Some t.place) (first_too_large (tokens_of s ts))) (subst P (sym (here t)) large s all.0)
-first_large s (t ∷ ts) x (suc i) all h here small large =
-    first_large s ts x i all.1 (omega arith) here (λ k d a b. small (suc k) d (omega arith) (omega arith)) large
-    ∙ ap (λ b. cond b (Some t.place) (first_too_large (tokens_of s ts))) (small 0 t (omega arith) (omega arith) s all.0)
+found_step : (b : Bool) (t : coded.Token) (o : Option coded.Token) → option_map (λ u. u.place) (cond b (Some t) o) ≡ cond b (Some t.place) (option_map (λ u. u.place) o)
+found_step true t o = refl
+found_step false t o = refl
 
--- what a search by that test finds
-pub found_large : (s : List ℕ) (ts : List coded.Token) (o : Option (Bor coded.Token)) → AllByRecursion (Within s) ts → MatchOption o (AllWithin (λ t. Large t false) ts 0 (length ts)) (λ x. Large x.now true × (i : ℕ) × (i < length ts) × HoldsAt (λ t. t ≡ x.now) ts i × AllWithin (λ t. Large t false) ts 0 i) → option_map (λ x. x.now.place) o ≡ first_too_large (tokens_of s ts)
-found_large s ts None all h = none_large s ts all h
-found_large s ts (Some x) all h = first_large s ts x.now h.1 all h.2 h.3 h.4 h.0
+-- what the code finds among tokens that lie in the source
+found_is : (s : List ℕ) (ts : List coded.Token) → AllByRecursion (Within s) ts → option_map (λ t. t.place) (find coded_too_large ts) ≡ first_too_large (tokens_of s ts)
+found_is s [] all = refl
+found_is s (t ∷ ts) all =
+    found_step (coded_too_large t) t (find coded_too_large ts)
+    ∙ (λ i. cond (coded_is s t all.0 i) (Some t.place) (found_is s ts all.1 i))
 
 reads_within : {q : ℕ} {rest : List ℕ} {p : ℕ} {bs : List ℕ} {ls : List Lexeme} (n : ℕ) → p + length bs ≤ n → Reads q rest p bs ls → AllByRecursion (λ l. l.token.place + l.length ≤ n) ls
 reads_within n h done = tt
@@ -104,6 +105,10 @@ module _ (s : List ℕ) (ts : List coded.Token) where
 
   pub all_within : limited_all (lexing s) ≡ good (lexemes_of s ts) → AllByRecursion (Within s) ts
   all_within e = lexed_within (lexing s) (source_reading s) e
+
+  -- the same of the tokens of a source
+  pub found_lexed : limited_all (lexing s) ≡ good (lexemes_of s ts) → option_map (λ t. t.place) (find coded_too_large ts) ≡ first_too_large (tokens_of s ts)
+  found_lexed e = found_is s ts (all_within e)
 
   first_is : (ls : List Lexeme) → limited_all (good ls) ≡ good (lexemes_of s ts) → first_too_large (tokens_of s ts) ≡ first_too_large (tokens ls)
   first_is ls e = ap first_too_large (sym (tokens_of_lem s ts)) ∙ ap (λ ms. first_too_large (tokens ms)) (sym (same_cut ls e)) ∙ same_first ls

@@ -35,8 +35,11 @@ sizes : (bs : List ℕ) (f : Found) (o : Option (Kind × ℕ)) → Sound bs o �
 sizes bs f None s e = absurd (let z : ◌≡◌ {A = ℕ} 0 1 = cc in omega arith)
 sizes bs f (Some x) s e = let same : f.length ≡ x.1 = ap length_in e in (omega (arith, s.some), omega (arith, s.fits))
 
-pub found_sizes : (bs : List ℕ) (f : Found) → seen bs (Some f) ≡ limited (scanned bs) → (0 < f.length) × (f.length ≤ length bs)
+found_sizes : (bs : List ℕ) (f : Found) → seen bs (Some f) ≡ limited (scanned bs) → (0 < f.length) × (f.length ≤ length bs)
 found_sizes bs f e = sizes bs f (scanned bs) (scanned_sound bs) e
+
+pub scanned_sizes : (bs : List ℕ) (o : Option Found) (f : Found) → seen bs o ≡ limited (scanned bs) → o ≡ Some f → (0 < f.length) × (f.length ≤ length bs)
+scanned_sizes bs o f e is = found_sizes bs f (ap (seen bs) (sym is) ∙ e)
 
 none_found : (o : Option (Kind × ℕ)) → None ≡ limited o → o ≡ None
 none_found None e = refl

@@ -1,10 +1,10 @@
 -- Words told by their bytes, and the word at the front of a text.
-use Rattle.std.proofs.Common.{◌≡◌, ℕ, zero, suc, ◌+◌, ◌<◌, Bool, true, false, ◌&&◌, ◌||◌, eqb, leb, List, [], ◌∷◌, length, get_or, take, Some, sym, refl, ap, ◌∙◌, arith, rules}
+use Rattle.std.proofs.Common.{◌≡◌, ℕ, zero, suc, ◌<◌, Bool, true, false, ◌&&◌, ◌||◌, leb, List, [], ◌∷◌, length, get_or, take, Some, sym, refl, ap, ◌∙◌, arith, rules}
 use Rattle.std.specs.List.{prefix_len}
 use Rattle.std.specs.Char.{is_ascii_alphanumeric}
 use Rattle.std.proofs.lemmas.Grind.{same_number_lists}
 use Rattle.syntax.specs.Tokens.{Kind}
-use Rattle.lexer.specs.Bytes.{digit, letter, word_byte}
+use Rattle.lexer.specs.Bytes.{digit, word_byte}
 use Rattle.lexer.specs.Scan.{word_kind, word_at, limited_kind, limited}
 use Rattle.lexer.proofs.Runs.{run_same}
 

@@ -1,12 +1,13 @@
 // From the bytes of a source to its tokens.
 #![tactic(auto)]
 
-ghost use Rattle.std.specs.Prelude.{◌≡◌, ℕ, ◌≤◌, List, length, IfOk, MatchResult};
-ghost use Rattle.std.specs.List.{AllByRecursion};
-ghost use Rattle.syntax.specs.Tokens.{token_of, tokens_of};
+ghost use Rattle.std.specs.Prelude.{◌≡◌, ◌≤◌, length, IfOk, MatchResult};
+ghost use Rattle.std.specs.List.{AllByRecursion, find};
+ghost use Rattle.std.specs.Option.{option_map};
+ghost use Rattle.syntax.specs.Tokens.{tokens_of};
 ghost use Rattle.lexer.specs.Bytes.{blank};
 ghost use Rattle.lexer.specs.Reading.{Lexical};
-ghost use Rattle.lexer.specs.Lex.{good, lexing, limited_all, lexemes_of, too_large, first_too_large, answer, accepted, Refuses, Strays, Within};
+ghost use Rattle.lexer.specs.Lex.{good, lexing, limited_all, lexemes_of, coded_too_large, answer, accepted, Refuses, Strays, Within};
 
 pub mod refusal;
 mod scan;
@@ -41,11 +42,12 @@ fn tokens(heap: Global, source: &[u8]) -> Result<Vec<Token>, Refusal>
         } else {
             let place = (source.len() - rest.len()) as u32;
             let found = scan_token(rest).ok_or(Refusal::NoToken(place))?;
-            tokens.push(Token {
+            let token = Token {
                 kind: found.kind,
                 place,
                 length: found.length as u32,
-            })?;
+            };
+            tokens.push(token)?;
             rest = &rest[found.length..];
         }
     }
@@ -53,7 +55,7 @@ fn tokens(heap: Global, source: &[u8]) -> Result<Vec<Token>, Refusal>
 }
 
 fn is_too_large(token: &Token) -> bool
-    ensures { (s : List ℕ) → Within s token.now → result ≡ too_large (token_of s token.now).kind }
+    ensures { result ≡ coded_too_large token.now }
 {
     match token.kind {
         Kind::Name => token.length > MAX_NAME,
@@ -63,7 +65,7 @@ fn is_too_large(token: &Token) -> bool
 }
 
 fn first_too_large(tokens: &[Token]) -> Option<u32>
-    ensures { (s : List ℕ) → AllByRecursion (Within s) tokens.now → result ≡ first_too_large (tokens_of s tokens.now) }
+    ensures { result ≡ option_map (λ t. t.place) (find coded_too_large tokens.now) }
 {
     tokens
         .iter()

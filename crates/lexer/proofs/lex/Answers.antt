@@ -1,10 +1,9 @@
-use Rattle.std.proofs.Common.{List, vec_items, sym, ap, ◌∙◌, subst, arith}
-use Rattle.std.specs.List.{AllByRecursion}
+use Rattle.std.proofs.Common.{vec_items, sym, ap, ◌∙◌, arith}
+use Rattle.std.specs.List.{find}
+use Rattle.std.specs.Option.{option_map}
 use Rattle.std.proofs.lemmas.Result.{err_from_is_err_and}
-use Rattle.syntax.specs.declared.token.Token.{Token}
-use Rattle.syntax.specs.Tokens.{tokens_of}
-use Rattle.lexer.specs.Lex.{first_too_large, Within}
-use Rattle.lexer.proofs.Limits.{all_within, small_lexed, small_accepted, large_refused, long_answer, stray_refused}
+use Rattle.lexer.specs.Lex.{coded_too_large}
+use Rattle.lexer.proofs.Limits.{all_within, found_lexed, small_lexed, small_accepted, large_refused, long_answer, stray_refused}
 use Rattle.lexer.proofs.Only.{lexical}
 use Rattle.lexer.proofs.lex.Goals as goal
 
@@ -25,8 +24,7 @@ returns-in-Some c =
     let s = c.args.source.now in
     let ts = vec_items c.in_ok-tokens.tokens in
     let cut = c.in_ok-tokens.ensures in
-    let P : List Token → Type 0 = λ us. AllByRecursion (Within s) us in
-    let first = c.in-Some.ensures s (subst P (sym c.deref.ensures.value) (all_within s ts cut)) ∙ ap (λ us. first_too_large (tokens_of s us)) c.deref.ensures.value in
+    let first = c.in-Some.ensures ∙ ap (λ us. option_map (λ t. t.place) (find coded_too_large us)) c.deref.ensures.value ∙ found_lexed s ts cut in
     record { answers = large_refused s ts (omega arith) c.in-Some.place cut (sym first); lexemes = tt; within = tt; lexical = lexical s }
 
 pub returns-in-None : goal.returns-in-None
@@ -34,8 +32,7 @@ returns-in-None c =
     let s = c.args.source.now in
     let ts = vec_items c.in_ok-tokens.tokens in
     let cut = c.in_ok-tokens.ensures in
-    let P : List Token → Type 0 = λ us. AllByRecursion (Within s) us in
-    let first = c.in-None.ensures s (subst P (sym c.deref.ensures.value) (all_within s ts cut)) ∙ ap (λ us. first_too_large (tokens_of s us)) c.deref.ensures.value in
+    let first = c.in-None.ensures ∙ ap (λ us. option_map (λ t. t.place) (find coded_too_large us)) c.deref.ensures.value ∙ found_lexed s ts cut in
     record {
       answers = small_accepted s ts (omega arith) cut (sym first);
       lexemes = small_lexed s ts cut (sym first);

@@ -1,12 +1,11 @@
-use Rattle.std.proofs.Common.{◌≡◌, ◌-◌, ◌≤◌, ◌<◌, List, ℕ, None, Some, Err, length, take, drop, vec_items, sym, ap, subst, ◌∙◌, arith, rules, length-drop}
-use Rattle.std.specs.Option.{ok_or}
+use Rattle.std.proofs.Common.{◌≡◌, ◌-◌, List, ℕ, None, length, vec_items, sym, ap, subst, ◌∙◌, arith, rules, length-drop}
 use Rattle.std.proofs.lemmas.List.{take_rest}
 use Rattle.std.proofs.lemmas.Result.{err_from_is_err_and}
 use Rattle.lexer.specs.declared.refusal.Refusal.{Refusal}
 use Rattle.lexer.specs.declared.refusal.Refusal.TheVariants.{NoToken}
-use Rattle.lexer.specs.Scan.{seen, limited, scanned}
+use Rattle.lexer.specs.Scan.{seen}
 use Rattle.lexer.specs.Lex.{lexing, Strays}
-use Rattle.lexer.proofs.Turns.{ReadTo, found_sizes, told_none, blank_turn, stray_turn, token_turn}
+use Rattle.lexer.proofs.Turns.{ReadTo, scanned_sizes, told_none, blank_turn, stray_turn, token_turn}
 use Rattle.lexer.proofs.tokens.Goals as goal
 
 pub loop-first-preserved-then-is_blank : goal.loop-first-preserved-then-is_blank
@@ -26,28 +25,24 @@ returns-in_err-found c =
     let p = err_from_is_err_and c.from_residual.result c.from_residual.ensures.1 in
     rw (p.1, p.2) strays
 
-pub overflow_cast-found : goal.overflow_cast-found
-overflow_cast-found c =
-    let found = ap (λ o. seen c.loop-first.rest.now o) (sym c.in_ok-found.ensures.ok_part) ∙ c.scan_token.ensures in
-    let size = found_sizes c.loop-first.rest.now c.in_ok-found.found found in
+pub overflow_cast-token : goal.overflow_cast-token
+overflow_cast-token c =
+    let size = scanned_sizes c.loop-first.rest.now _ c.in_ok-found.found c.scan_token.ensures c.in_ok-found.ensures.ok_part in
     search rules
 
 pub slice_bounds-rest-count : goal.slice_bounds-rest-count
 slice_bounds-rest-count c =
-    let found = ap (λ o. seen c.loop-first.rest.now o) (sym c.in_ok-found.ensures.ok_part) ∙ c.scan_token.ensures in
-    let size = found_sizes c.loop-first.rest.now c.in_ok-found.found found in
+    let size = scanned_sizes c.loop-first.rest.now _ c.in_ok-found.found c.scan_token.ensures c.in_ok-found.ensures.ok_part in
     size.1
 
 pub slice_bounds-rest-start : goal.slice_bounds-rest-start
 slice_bounds-rest-start c =
-    let found = ap (λ o. seen c.loop-first.rest.now o) (sym c.in_ok-found.ensures.ok_part) ∙ c.scan_token.ensures in
-    let size = found_sizes c.loop-first.rest.now c.in_ok-found.found found in
+    let size = scanned_sizes c.loop-first.rest.now _ c.in_ok-found.found c.scan_token.ensures c.in_ok-found.ensures.ok_part in
     search rules
 
 pub loop-first-smaller : goal.loop-first-smaller
 loop-first-smaller c =
-    let found = ap (λ o. seen c.loop-first.rest.now o) (sym c.in_ok-found.ensures.ok_part) ∙ c.scan_token.ensures in
-    let size = found_sizes c.loop-first.rest.now c.in_ok-found.found found in
+    let size = scanned_sizes c.loop-first.rest.now _ c.in_ok-found.found c.scan_token.ensures c.in_ok-found.ensures.ok_part in
     omega (arith, size.0, size.1, ap length (take_rest c.loop-first.rest.now c.in_ok-found.found.length), length-drop c.in_ok-found.found.length c.loop-first.rest.now)
 
 pub loop-first-preserved : goal.loop-first-preserved

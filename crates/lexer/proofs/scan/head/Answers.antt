@@ -1,16 +1,11 @@
-use Rattle.std.proofs.Common.{◌≡◌, ◌+◌, ◌-◌, length, Some, true, false, ap, ◌∙◌, rules, tests, arith, length-drop}
+use Rattle.std.proofs.Common.{◌≡◌, ◌+◌, ◌-◌, length, ap, ◌∙◌, rules, tests, arith, length-drop}
 use Rattle.std.specs.List.{prefix_len}
-use Rattle.std.proofs.lemmas.Iterator.{YieldsList-from_slice}
-use Rattle.std.proofs.lemmas.Iterator.Consumers.{count_from_yields_List}
-use Rattle.std.proofs.lemmas.Iterator.Search.{YieldsList-from_take_while}
 use Rattle.std.proofs.lemmas.List.{take_rest}
-use Rattle.std.proofs.lemmas.List.Folds.{length-prefix_len}
 use Rattle.std.proofs.lemmas.List.Sums.{prefix_len-le-length}
-use Rattle.syntax.specs.declared.token.Mark.TheVariants.{Head}
-use Rattle.syntax.specs.Tokens.{mark}
 use Rattle.lexer.specs.Bytes.{gap}
 use Rattle.lexer.specs.Scan.{seen}
-use Rattle.lexer.proofs.Heads.{head_is}
+use Rattle.lexer.proofs.Runs.{run_counted}
+use Rattle.lexer.proofs.Heads.{head_none, head_some}
 use Rattle.lexer.proofs.scan.head.Goals as goal
 
 pub returns-in_err-rest : goal.returns-in_err-rest
@@ -19,10 +14,10 @@ returns-in_err-rest c =
     let behind = c.in_ok-behind.behind.now in
     let n = c.count-gap.result in
     let run : n ≡ prefix_len gap behind =
-    count_from_yields_List c.take_while.result _ c.count-gap.ensures.ran (YieldsList-from_take_while _ gap (YieldsList-from_slice behind (cc)) c.take_while.ensures.closure c.take_while.ensures.done (λ x b q k. search (rules, tests))) ∙ length-prefix_len gap behind in
+    run_counted _ gap behind c.take_while.result _ _ (cc) c.take_while.ensures.closure c.take_while.ensures.done (λ x b q k. search (rules, tests)) c.count-gap.ensures.ran in
     let first = c.in_ok-behind.ensures.cases in
     let last = c.in_err-rest.ensures.cases in
-    ap (seen text) c.from_residual-in_err-rest.ensures ∙ head_is text behind _ n false first.0 first.1 run (take_rest behind n) last
+    ap (seen text) c.from_residual-in_err-rest.ensures ∙ head_none text behind _ n first.0 first.1 run (take_rest behind n) last
 
 pub returns : goal.returns
 returns c =
@@ -30,8 +25,8 @@ returns c =
     let behind = c.in_ok-behind.behind.now in
     let n = c.count-gap.result in
     let run : n ≡ prefix_len gap behind =
-    count_from_yields_List c.take_while.result _ c.count-gap.ensures.ran (YieldsList-from_take_while _ gap (YieldsList-from_slice behind (cc)) c.take_while.ensures.closure c.take_while.ensures.done (λ x b q k. search (rules, tests))) ∙ length-prefix_len gap behind in
+    run_counted _ gap behind c.take_while.result _ _ (cc) c.take_while.ensures.closure c.take_while.ensures.done (λ x b q k. search (rules, tests)) c.count-gap.ensures.ran in
     let first = c.in_ok-behind.ensures.cases in
     let last = c.in_ok-rest.ensures.cases in
     let long : length text - length c.in_ok-rest.rest.now ≡ 17 + n = omega (arith, run, first.2, last.2, prefix_len-le-length gap behind, ap length (take_rest behind n), length-drop n behind) in
-    ap (λ m. Some (mark Head, m)) long ∙ head_is text behind _ n true first.0 first.1 run (take_rest behind n) last.0
+    head_some text behind _ n first.0 first.1 run (take_rest behind n) last.0 _ long

@@ -1,5 +1,5 @@
 -- One turn of the loop that reads tokens.
-use Rattle.std.proofs.Common.{◌≡◌, ℕ, zero, suc, ◌+◌, ◌-◌, ◌<◌, ◌≤◌, true, false, cond, List, [], ◌∷◌, ◌++◌, length, take, drop, Some, None, Option, Err, sym, refl, ap, ◌∙◌, subst, append_assoc, append-nil, add-zero, arith, length-drop, drop-drop}
+use Rattle.std.proofs.Common.{◌≡◌, ℕ, zero, suc, ◌+◌, ◌-◌, ◌<◌, ◌≤◌, true, false, cond, List, [], ◌∷◌, ◌++◌, length, take, drop, Some, None, Option, Err, sym, refl, ap, ◌∙◌, subst, append_assoc, add-zero, arith, length-drop, drop-drop}
 use Rattle.std.proofs.lemmas.List.{map_push}
 use Rattle.std.specs.Option.{ok_or}
 use Rattle.syntax.specs.declared.token.Token as coded
@@ -110,10 +110,6 @@ module _ (s : List ℕ) (ts : List coded.Token) (b : ℕ) (bs : List ℕ) (p : �
               h.so_far ∙ ap (before (lexemes_of s ts)) (turn_token e) ∙ before_before (lexemes_of s ts) (lexeme_of s t ∷ []) rest
               ∙ ap (λ ls. before ls rest) (sym (ap (lexemes_of s) pushed ∙ map_push (lexeme_of s) ts t));
         }
-
--- no byte is left
-pub all_read : (s : List ℕ) (ts : List coded.Token) (p : ℕ) → ReadTo s ts [] p → limited_all (lexing s) ≡ good (lexemes_of s ts)
-all_read s ts p h = h.so_far ∙ ap good (append-nil (lexemes_of s ts))
 
 -- the same of the code's rest, whose place is computed from its length
 module _ (s : List ℕ) (ts : List coded.Token) (rest : List ℕ) (b : ℕ) (bs : List ℕ) (is : rest ≡ b ∷ bs) (h : ReadTo s ts rest (length s - length rest)) where

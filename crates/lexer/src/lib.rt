@@ -23,6 +23,7 @@ const MAX_NAME: u32 = 16;
 
 const MAX_NUMBER: u32 = 1_073_741_823;
 
+// `is_ascii_whitespace` would take a form feed too.
 fn is_blank(byte: u8) -> bool
     ensures { result ≡ blank byte }
 {

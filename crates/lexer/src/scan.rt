@@ -5,7 +5,7 @@ ghost use Rattle.lexer.specs.Scan.{word_kind, value_of, word_at, number_at, head
 
 use syntax::token::{Additive, Kind, Mark, Multiplicative, Relation};
 
-// A number above the greatest is kept as this.
+// A number above the greatest is kept as this, one more than the greatest.
 const BEYOND: u32 = 1_073_741_824;
 
 // A token's kind and how many bytes it has.
@@ -31,6 +31,7 @@ fn word_kind(word: &[u8]) -> Kind
     }
 }
 
+// A number that a `u32` cannot hold saturates, and so stays above the greatest.
 fn value(digits: &[u8]) -> u32
     ensures { result ≡ min (value_of digits.now) 1073741824 }
 {

@@ -107,7 +107,7 @@ module _ (s : List ℕ) (ts : List coded.Token) where
   all_within e = lexed_within (lexing s) (source_reading s) e
 
   -- the same of the tokens of a source
-  pub found_lexed : limited_all (lexing s) ≡ good (lexemes_of s ts) → option_map (λ t. t.place) (find coded_too_large ts) ≡ first_too_large (tokens_of s ts)
+  found_lexed : limited_all (lexing s) ≡ good (lexemes_of s ts) → option_map (λ t. t.place) (find coded_too_large ts) ≡ first_too_large (tokens_of s ts)
   found_lexed e = found_is s ts (all_within e)
 
   first_is : (ls : List Lexeme) → limited_all (good ls) ≡ good (lexemes_of s ts) → first_too_large (tokens_of s ts) ≡ first_too_large (tokens ls)
@@ -117,10 +117,6 @@ module _ (s : List ℕ) (ts : List coded.Token) where
   lexed_uncut (good ls) e small = ap good (sym (all_uncut ls (sym (first_is ls e) ∙ small)) ∙ same_cut ls e)
   lexed_uncut (stray p) e small = absurd (let z : ◌≡◌ {A = ℕ} 0 1 = cc in omega arith)
 
-  -- none is too large: the tokens are the source's
-  pub small_lexed : limited_all (lexing s) ≡ good (lexemes_of s ts) → first_too_large (tokens_of s ts) ≡ None → lexing s ≡ good (lexemes_of s ts)
-  small_lexed e small = lexed_uncut (lexing s) e small
-
   read_small : first_too_large (tokens_of s ts) ≡ None → read (good (lexemes_of s ts)) ≡ accepted (tokens_of s ts)
   read_small small = ap (λ us. sized us (first_too_large us)) (tokens_of_lem s ts) ∙ ap (sized (tokens_of s ts)) small
 
@@ -128,12 +124,15 @@ module _ (s : List ℕ) (ts : List coded.Token) where
   read_large (good ls) p e large = ap (sized (tokens ls)) (sym (first_is ls e) ∙ large)
   read_large (stray q) p e large = absurd (let z : ◌≡◌ {A = ℕ} 0 1 = cc in omega arith)
 
-  module _ (short : length s ≤ 16384) where
-    pub small_accepted : limited_all (lexing s) ≡ good (lexemes_of s ts) → first_too_large (tokens_of s ts) ≡ None → answer s ≡ accepted (tokens_of s ts)
-    small_accepted e small = short_answer s short ∙ ap read (small_lexed e small) ∙ read_small small
+  -- none is too large: the tokens are the source's
+  pub small_lexed : limited_all (lexing s) ≡ good (lexemes_of s ts) → option_map (λ t. t.place) (find coded_too_large ts) ≡ None → lexing s ≡ good (lexemes_of s ts)
+  small_lexed e small = lexed_uncut (lexing s) e (sym (found_lexed e) ∙ small)
 
-    pub large_refused : (p : ℕ) → limited_all (lexing s) ≡ good (lexemes_of s ts) → first_too_large (tokens_of s ts) ≡ Some p → answer s ≡ refused 3 p
-    large_refused p e large = short_answer s short ∙ read_large (lexing s) p e large
+  pub small_accepted : length s ≤ 16384 → limited_all (lexing s) ≡ good (lexemes_of s ts) → option_map (λ t. t.place) (find coded_too_large ts) ≡ None → answer s ≡ accepted (tokens_of s ts)
+  small_accepted short e small = short_answer s short ∙ ap read (small_lexed e small) ∙ read_small (sym (found_lexed e) ∙ small)
+
+  pub large_refused : (p : ℕ) → length s ≤ 16384 → limited_all (lexing s) ≡ good (lexemes_of s ts) → option_map (λ t. t.place) (find coded_too_large ts) ≡ Some p → answer s ≡ refused 3 p
+  large_refused p short e large = short_answer s short ∙ read_large (lexing s) p e (sym (found_lexed e) ∙ large)
 
 -- a longer source
 pub long_answer : (s : List ℕ) → 16384 < length s → answer s ≡ refused 1 16384

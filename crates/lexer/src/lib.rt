@@ -75,6 +75,7 @@ fn first_too_large(tokens: &[Token]) -> Option<u32>
 }
 
 // The tokens of a source, or the first of the three questions that is answered no.
+#[tactic(auto, using(crate::proofs::Only::lexical, crate::proofs::Limits::all_within, crate::proofs::Limits::small_lexed, crate::proofs::Limits::small_accepted, crate::proofs::Limits::large_refused))]
 pub fn lex(heap: Global, source: &[u8]) -> Result<Vec<Token>, Refusal>
     ensures answers { MatchResult result (λ v. answer source.now ≡ accepted (tokens_of source.now v.items)) (λ e. Refuses source.now e) }
     ensures lexemes { IfOk result (λ v. lexing source.now ≡ good (lexemes_of source.now v.items)) }

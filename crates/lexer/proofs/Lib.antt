@@ -1,6 +1,8 @@
 pub mod Begins
 pub mod Values
 pub mod Runs
+pub mod Words
+pub mod Numbers
 pub mod Heads
 pub mod Spellings
 pub mod Sound

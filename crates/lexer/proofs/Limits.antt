@@ -1,16 +1,19 @@
 -- Numbers cut above the greatest: where none is too large, nothing was cut.
-use Rattle.std.proofs.Common.{◌≡◌, ℕ, ◌+◌, ◌<◌, ◌≤◌, min, Bool, true, false, cond, List, [], ◌∷◌, map, length, get_or, drop, Some, None, Option, sym, refl, ap, ◌∙◌, subst, arith, length-append}
-use Rattle.std.specs.List.{AllByRecursion}
+use Rattle.std.proofs.Common.{◌≡◌, ℕ, ◌+◌, ◌<◌, ◌≤◌, min, Bool, true, false, cond, ltb, List, [], ◌∷◌, map, length, take, drop, replicate, Some, None, Option, sym, refl, ap, ◌∙◌, subst, arith, length-append, length-drop}
+use Rattle.std.specs.Option.{option_map}
+use Rattle.std.specs.List.{AllByRecursion, find}
 use Rattle.std.proofs.lemmas.Bool.{le-ltb, lt-ltb, ltb-false}
 use Rattle.std.proofs.lemmas.Bool.Decides.{nat_tests}
-use Rattle.std.proofs.ByRecursion.{All-map, All-get_or}
-use Rattle.std.proofs.lemmas.List.{at_drop_more}
+use Rattle.std.proofs.ByRecursion.{All-map}
+use Rattle.std.proofs.lemmas.List.{length-take-le, length-replicate}
 use Rattle.syntax.specs.declared.token.Token as coded
-use Rattle.syntax.specs.Tokens.{Kind, mark, name, number, relation, additive, multiplicative, token_of, tokens_of}
+use Rattle.syntax.specs.declared.token.Kind as coded-kind
+use Rattle.syntax.specs.declared.token.Kind.TheVariants as code
+use Rattle.syntax.specs.Tokens.{Name, Kind, mark, name, number, relation, additive, multiplicative, kind_of, token_of, tokens_of}
 use Rattle.lexer.specs.declared.refusal.Refusal.{Refusal}
 use Rattle.lexer.specs.declared.refusal.Refusal.TheVariants as refusal
 use Rattle.lexer.specs.Scan.{limited_kind}
-use Rattle.lexer.specs.Lex.{Lexeme, lexeme, tokens, Lexed, good, stray, lexing, too_large, first_too_large, answer, accepted, refused, sized, read, lexeme_of, lexemes_of, Within, limited_lexeme, limited_all, Strays, Refuses}
+use Rattle.lexer.specs.Lex.{Lexeme, lexeme, tokens, Lexed, good, stray, lexing, too_large, coded_too_large, first_too_large, answer, accepted, refused, sized, read, lexeme_of, lexemes_of, Within, limited_lexeme, limited_all, Strays, Refuses}
 use Rattle.lexer.specs.Reading.{Reads, done, blank, token, Reading}
 use Rattle.lexer.proofs.Reading.{source_reading}
 
@@ -54,11 +57,29 @@ tokens_of_lem : (s : List ℕ) (ts : List coded.Token) → tokens (lexemes_of s 
 tokens_of_lem s [] = refl
 tokens_of_lem s (t ∷ ts) = ap (λ us. token_of s t ∷ us) (tokens_of_lem s ts)
 
--- the first of the tokens that are left, t saying whether it is too large
-pub large_step : (s : List ℕ) (ts : List coded.Token) (i : ℕ) (d : coded.Token) (t : Bool) → i < length ts → AllByRecursion (Within s) ts → (Within s (get_or ts i d) → t ≡ too_large (token_of s (get_or ts i d)).kind) → first_too_large (tokens_of s (drop i ts)) ≡ cond t (Some (get_or ts i d).place) (first_too_large (tokens_of s (drop (i + 1) ts)))
-large_step s ts i d t h all is =
-    at_drop_more (λ us. first_too_large (tokens_of s us)) ts i d h
-    ∙ ap (λ b. cond b (Some (get_or ts i d).place) (first_too_large (tokens_of s (drop (i + 1) ts)))) (sym (is (All-get_or (Within s) ts i d h all)))
+same_size : (k : coded-kind.Kind) (v w : Name) → length v ≡ length w → too_large (kind_of k v) ≡ too_large (kind_of k w)
+same_size (code.Mark m) v w e = refl
+same_size code.Name v w e = ap (ltb 16) e
+same_size (code.Number n) v w e = refl
+same_size (code.Relation r) v w e = refl
+same_size (code.Additive a) v w e = refl
+same_size (code.Multiplicative m) v w e = refl
+
+coded_is : (s : List ℕ) (t : coded.Token) → Within s t → coded_too_large t ≡ too_large (token_of s t).kind
+coded_is s t within =
+    same_size t.kind (replicate t.length 0) (take t.length (drop t.place s))
+    (length-replicate t.length 0 ∙ sym (length-take-le t.length (drop t.place s) (omega (arith, length-drop t.place s))))
+
+found_step : (b : Bool) (t : coded.Token) (o : Option coded.Token) → option_map (λ u. u.place) (cond b (Some t) o) ≡ cond b (Some t.place) (option_map (λ u. u.place) o)
+found_step true t o = refl
+found_step false t o = refl
+
+-- what the code finds among tokens that lie in the source
+found_is : (s : List ℕ) (ts : List coded.Token) → AllByRecursion (Within s) ts → option_map (λ t. t.place) (find coded_too_large ts) ≡ first_too_large (tokens_of s ts)
+found_is s [] all = refl
+found_is s (t ∷ ts) all =
+    found_step (coded_too_large t) t (find coded_too_large ts)
+    ∙ (λ i. cond (coded_is s t all.0 i) (Some t.place) (found_is s ts all.1 i))
 
 reads_within : {q : ℕ} {rest : List ℕ} {p : ℕ} {bs : List ℕ} {ls : List Lexeme} (n : ℕ) → p + length bs ≤ n → Reads q rest p bs ls → AllByRecursion (λ l. l.token.place + l.length ≤ n) ls
 reads_within n h done = tt
@@ -85,16 +106,16 @@ module _ (s : List ℕ) (ts : List coded.Token) where
   pub all_within : limited_all (lexing s) ≡ good (lexemes_of s ts) → AllByRecursion (Within s) ts
   all_within e = lexed_within (lexing s) (source_reading s) e
 
+  -- the same of the tokens of a source
+  found_lexed : limited_all (lexing s) ≡ good (lexemes_of s ts) → option_map (λ t. t.place) (find coded_too_large ts) ≡ first_too_large (tokens_of s ts)
+  found_lexed e = found_is s ts (all_within e)
+
   first_is : (ls : List Lexeme) → limited_all (good ls) ≡ good (lexemes_of s ts) → first_too_large (tokens_of s ts) ≡ first_too_large (tokens ls)
   first_is ls e = ap first_too_large (sym (tokens_of_lem s ts)) ∙ ap (λ ms. first_too_large (tokens ms)) (sym (same_cut ls e)) ∙ same_first ls
 
   lexed_uncut : (r : Lexed) → limited_all r ≡ good (lexemes_of s ts) → first_too_large (tokens_of s ts) ≡ None → r ≡ good (lexemes_of s ts)
   lexed_uncut (good ls) e small = ap good (sym (all_uncut ls (sym (first_is ls e) ∙ small)) ∙ same_cut ls e)
   lexed_uncut (stray p) e small = absurd (let z : ◌≡◌ {A = ℕ} 0 1 = cc in omega arith)
-
-  -- none is too large: the tokens are the source's
-  pub small_lexed : limited_all (lexing s) ≡ good (lexemes_of s ts) → first_too_large (tokens_of s ts) ≡ None → lexing s ≡ good (lexemes_of s ts)
-  small_lexed e small = lexed_uncut (lexing s) e small
 
   read_small : first_too_large (tokens_of s ts) ≡ None → read (good (lexemes_of s ts)) ≡ accepted (tokens_of s ts)
   read_small small = ap (λ us. sized us (first_too_large us)) (tokens_of_lem s ts) ∙ ap (sized (tokens_of s ts)) small
@@ -103,12 +124,15 @@ module _ (s : List ℕ) (ts : List coded.Token) where
   read_large (good ls) p e large = ap (sized (tokens ls)) (sym (first_is ls e) ∙ large)
   read_large (stray q) p e large = absurd (let z : ◌≡◌ {A = ℕ} 0 1 = cc in omega arith)
 
-  module _ (short : length s ≤ 16384) where
-    pub small_accepted : limited_all (lexing s) ≡ good (lexemes_of s ts) → first_too_large (tokens_of s ts) ≡ None → answer s ≡ accepted (tokens_of s ts)
-    small_accepted e small = short_answer s short ∙ ap read (small_lexed e small) ∙ read_small small
+  -- none is too large: the tokens are the source's
+  pub small_lexed : limited_all (lexing s) ≡ good (lexemes_of s ts) → option_map (λ t. t.place) (find coded_too_large ts) ≡ None → lexing s ≡ good (lexemes_of s ts)
+  small_lexed e small = lexed_uncut (lexing s) e (sym (found_lexed e) ∙ small)
 
-    pub large_refused : (p : ℕ) → limited_all (lexing s) ≡ good (lexemes_of s ts) → first_too_large (tokens_of s ts) ≡ Some p → answer s ≡ refused 3 p
-    large_refused p e large = short_answer s short ∙ read_large (lexing s) p e large
+  pub small_accepted : length s ≤ 16384 → limited_all (lexing s) ≡ good (lexemes_of s ts) → option_map (λ t. t.place) (find coded_too_large ts) ≡ None → answer s ≡ accepted (tokens_of s ts)
+  small_accepted short e small = short_answer s short ∙ ap read (small_lexed e small) ∙ read_small (sym (found_lexed e) ∙ small)
+
+  pub large_refused : (p : ℕ) → length s ≤ 16384 → limited_all (lexing s) ≡ good (lexemes_of s ts) → option_map (λ t. t.place) (find coded_too_large ts) ≡ Some p → answer s ≡ refused 3 p
+  large_refused p short e large = short_answer s short ∙ read_large (lexing s) p e (sym (found_lexed e) ∙ large)
 
 -- a longer source
 pub long_answer : (s : List ℕ) → 16384 < length s → answer s ≡ refused 1 16384

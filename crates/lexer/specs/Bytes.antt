@@ -4,11 +4,8 @@
 --   letter      A to Z, a to z
 --   word_byte   what may stand in a word after its first letter
 --   gap         what may stand inside the head
---   member      whether a byte is in a class
 --   begins      whether a text begins with a spelling
 use Rattle.std.specs.Prelude.{ℕ, Bool, true, false, ◌&&◌, ◌||◌, List, [], ◌∷◌, ◌==◌, nat_le}
-use Rattle.lexer.specs.declared.class.Class.{Class}
-use Rattle.lexer.specs.declared.class.Class.TheVariants.{Word, Digit, Gap}
 
 abbrev pub blank : ℕ → Bool
 blank b = (b == 9 || b == 10) || (b == 13 || b == 32)
@@ -24,11 +21,6 @@ word_byte b = letter b || digit b
 
 abbrev pub gap : ℕ → Bool
 gap b = b == 32 || b == 9
-
-abbrev pub member : Class → ℕ → Bool
-member Word b = word_byte b
-member Digit b = digit b
-member Gap b = gap b
 
 abbrev pub begins : List ℕ → List ℕ → Bool
 begins [] bs = true

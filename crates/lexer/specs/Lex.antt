@@ -8,6 +8,7 @@
 --   lexed             what a text gives that begins at place p, its first k bytes inside a token
 --   lexing            what a whole source gives
 --   too_large         a name over 16 bytes, a number over 1,073,741,823
+--   coded_too_large   the same of a token of the code, where of a name's bytes only their number counts
 --   first_too_large   where the first such token begins
 --   Answer            accepted with tokens; or refused with a number, at a place
 --   sized             the third question
@@ -21,9 +22,9 @@
 --   Strays            a refusal of the first pass, which asks the second question
 --   Within            a token of the code lies in the source
 --   limited_lexeme    a lexeme with a number cut as the first pass keeps it; limited_all, all of them
-use Rattle.std.specs.Prelude.{◌≡◌, ℕ, ◌+◌, ◌-◌, ◌≤◌, Bool, false, cond, List, [], ◌∷◌, ◌++◌, map, length, Some, None, Option, nat_lt}
+use Rattle.std.specs.Prelude.{◌≡◌, ℕ, ◌+◌, ◌-◌, ◌≤◌, Bool, false, cond, List, [], ◌∷◌, ◌++◌, map, length, replicate, Some, None, Option, nat_lt}
 use Rattle.syntax.specs.declared.token.Token as coded
-use Rattle.syntax.specs.Tokens.{Kind, mark, name, number, relation, additive, multiplicative, Token, token_of}
+use Rattle.syntax.specs.Tokens.{Kind, mark, name, number, relation, additive, multiplicative, Token, kind_of, token_of}
 use Rattle.lexer.specs.declared.refusal.Refusal.{Refusal}
 use Rattle.lexer.specs.declared.refusal.Refusal.TheVariants as refusal
 use Rattle.lexer.specs.Bytes.{blank}
@@ -69,6 +70,9 @@ too_large (number v) = nat_lt 1073741823 v
 too_large (relation r) = false
 too_large (additive a) = false
 too_large (multiplicative m) = false
+
+abbrev pub coded_too_large : coded.Token → Bool
+coded_too_large t = too_large (kind_of t.kind (replicate t.length 0))
 
 abbrev pub first_too_large : List Token → Option ℕ
 first_too_large [] = None

@@ -1,17 +1,17 @@
 // From the bytes of a source to its tokens.
 #![tactic(auto)]
 
-ghost use Rattle.std.specs.Prelude.{◌≡◌, ℕ, ◌≤◌, List, length, IfOk, MatchResult};
-ghost use Rattle.std.specs.List.{AllByRecursion};
-ghost use Rattle.syntax.specs.Tokens.{token_of, tokens_of};
+ghost use Rattle.std.specs.Prelude.{◌≡◌, ◌≤◌, length, IfOk, MatchResult};
+ghost use Rattle.std.specs.List.{AllByRecursion, find};
+ghost use Rattle.std.specs.Option.{option_map};
+ghost use Rattle.syntax.specs.Tokens.{tokens_of};
+ghost use Rattle.lexer.specs.Bytes.{blank};
 ghost use Rattle.lexer.specs.Reading.{Lexical};
-ghost use Rattle.lexer.specs.Lex.{good, lexing, limited_all, lexemes_of, too_large, first_too_large, answer, accepted, Refuses, Strays, Within};
+ghost use Rattle.lexer.specs.Lex.{good, lexing, limited_all, lexemes_of, coded_too_large, answer, accepted, Refuses, Strays, Within};
 
-mod class;
 pub mod refusal;
 mod scan;
 
-use class::is_blank;
 use refusal::Refusal;
 use scan::scan_token;
 use std::alloc::Global;
@@ -23,36 +23,40 @@ const MAX_NAME: u32 = 16;
 
 const MAX_NUMBER: u32 = 1_073_741_823;
 
+// `is_ascii_whitespace` would take a form feed too.
+fn is_blank(byte: u8) -> bool
+    ensures { result ≡ blank byte }
+{
+    matches!(byte, b'\t' | b'\n' | b'\r' | b' ')
+}
+
 // The tokens of a source; a number above the greatest is cut to one more than that.
 fn tokens(heap: Global, source: &[u8]) -> Result<Vec<Token>, Refusal>
     requires { length source.now ≤ 16384 }
     ensures { MatchResult result (λ v. limited_all (lexing source.now) ≡ good (lexemes_of source.now v.items)) (λ e. Strays (lexing source.now) e) }
 {
     let mut tokens = Vec::new(heap);
-    let mut at = 0;
-    while at < source.len() {
-        if is_blank(source[at]) {
-            at += 1;
+    let mut rest = source;
+    while let Some((first, behind)) = rest.split_first() {
+        if is_blank(*first) {
+            rest = behind;
         } else {
-            match scan_token(&source[at..]) {
-                None => return Err(Refusal::NoToken(at as u32)),
-                Some(found) => {
-                    let token = Token {
-                        kind: found.kind,
-                        place: at as u32,
-                        length: found.length as u32,
-                    };
-                    tokens.push(token)?;
-                    at += found.length;
-                }
-            }
+            let place = (source.len() - rest.len()) as u32;
+            let found = scan_token(rest).ok_or(Refusal::NoToken(place))?;
+            let token = Token {
+                kind: found.kind,
+                place,
+                length: found.length as u32,
+            };
+            tokens.push(token)?;
+            rest = &rest[found.length..];
         }
     }
     Ok(tokens)
 }
 
-fn is_too_large(token: Token) -> bool
-    ensures { (s : List ℕ) → Within s token → result ≡ too_large (token_of s token).kind }
+fn is_too_large(token: &Token) -> bool
+    ensures { result ≡ coded_too_large token.now }
 {
     match token.kind {
         Kind::Name => token.length > MAX_NAME,
@@ -62,17 +66,16 @@ fn is_too_large(token: Token) -> bool
 }
 
 fn first_too_large(tokens: &[Token]) -> Option<u32>
-    ensures { (s : List ℕ) → AllByRecursion (Within s) tokens.now → result ≡ first_too_large (tokens_of s tokens.now) }
+    ensures { result ≡ option_map (λ t. t.place) (find coded_too_large tokens.now) }
 {
-    for token in tokens {
-        if is_too_large(*token) {
-            return Some(token.place);
-        }
-    }
-    None
+    tokens
+        .iter()
+        .find(|token| is_too_large(token))
+        .map(|token| token.place)
 }
 
 // The tokens of a source, or the first of the three questions that is answered no.
+#[tactic(auto, using(crate::proofs::Only::lexical, crate::proofs::Limits::all_within, crate::proofs::Limits::small_lexed, crate::proofs::Limits::small_accepted, crate::proofs::Limits::large_refused))]
 pub fn lex(heap: Global, source: &[u8]) -> Result<Vec<Token>, Refusal>
     ensures answers { MatchResult result (λ v. answer source.now ≡ accepted (tokens_of source.now v.items)) (λ e. Refuses source.now e) }
     ensures lexemes { IfOk result (λ v. lexing source.now ≡ good (lexemes_of source.now v.items)) }

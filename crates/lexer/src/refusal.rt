@@ -5,7 +5,7 @@ ghost use Rattle.lexer.specs.Lex.{number_of, place_of};
 
 use std::alloc::AllocFailed;
 
-#[derive(Drop)]
+#[derive(Clone, Copy, PartialEq, Eq, Debug)]
 pub enum Refusal {
     // over 16,384 bytes
     TooLong,
@@ -34,8 +34,7 @@ impl Refusal {
     {
         match self {
             Refusal::TooLong => 16_384,
-            Refusal::NoToken(place) => *place,
-            Refusal::TooLarge(place) => *place,
+            Refusal::NoToken(place) | Refusal::TooLarge(place) => *place,
             Refusal::NoMemory => 0,
         }
     }

@@ -1,16 +1,12 @@
 // The token that starts at the front of a text.
-ghost use Rattle.std.specs.Prelude.{◌≡◌, ℕ, ◌<◌, ◌≤◌, min, true, length, Some};
-ghost use Rattle.std.specs.List.{AllByRecursion};
-ghost use Rattle.std.specs.Str.{bytes_eq};
+ghost use Rattle.std.specs.Prelude.{◌≡◌, min, Some};
 ghost use Rattle.syntax.specs.Tokens.{kind_of};
-ghost use Rattle.lexer.specs.Bytes.{begins, digit, letter};
 ghost use Rattle.lexer.specs.Scan.{word_kind, value_of, word_at, number_at, head_at, symbol_at, scanned, limited, seen};
 
-use crate::class::{Class, is_digit, is_letter, run};
 use syntax::token::{Additive, Kind, Mark, Multiplicative, Relation};
 
-// A number above the greatest is kept as this.
-const BEYOND: u64 = 1_073_741_824;
+// A number above the greatest is kept as this, one more than the greatest.
+const BEYOND: u32 = 1_073_741_824;
 
 // A token's kind and how many bytes it has.
 #[derive(Clone, Copy)]
@@ -19,91 +15,70 @@ pub struct Found {
     pub length: usize,
 }
 
-fn same(a: &[u8], b: &[u8]) -> bool
-    ensures { result ≡ bytes_eq a.now b.now }
-{
-    a == b
-}
-
-fn starts(text: &[u8], spelling: &[u8]) -> bool
-    ensures value { result ≡ begins spelling.now text.now }
-    ensures fits { result ≡ true → length spelling.now ≤ length text.now }
-{
-    text.starts_with(spelling)
-}
-
 fn word_kind(word: &[u8]) -> Kind
     ensures { kind_of result word.now ≡ word_kind word.now }
 {
-    if same(word, b"int") {
-        Kind::Mark(Mark::Int)
-    } else if same(word, b"main") {
-        Kind::Mark(Mark::Main)
-    } else if same(word, b"scanf") {
-        Kind::Mark(Mark::Scanf)
-    } else if same(word, b"printf") {
-        Kind::Mark(Mark::Printf)
-    } else if same(word, b"if") {
-        Kind::Mark(Mark::If)
-    } else if same(word, b"else") {
-        Kind::Mark(Mark::Else)
-    } else if same(word, b"while") {
-        Kind::Mark(Mark::While)
-    } else if same(word, b"return") {
-        Kind::Mark(Mark::Return)
-    } else {
-        Kind::Name
+    match word {
+        b"int" => Kind::Mark(Mark::Int),
+        b"main" => Kind::Mark(Mark::Main),
+        b"scanf" => Kind::Mark(Mark::Scanf),
+        b"printf" => Kind::Mark(Mark::Printf),
+        b"if" => Kind::Mark(Mark::If),
+        b"else" => Kind::Mark(Mark::Else),
+        b"while" => Kind::Mark(Mark::While),
+        b"return" => Kind::Mark(Mark::Return),
+        _ => Kind::Name,
     }
 }
 
+// A number that a `u32` cannot hold saturates, and so stays above the greatest.
 fn value(digits: &[u8]) -> u32
-    requires { AllByRecursion (λ b. digit b ≡ true) digits.now }
     ensures { result ≡ min (value_of digits.now) 1073741824 }
 {
-    let mut value = 0;
-    for digit in digits {
-        value = (value * 10 + u64::from(*digit - b'0')).min(BEYOND);
-    }
-    value as u32
+    let value = digits.iter().fold(0u32, |value, digit| {
+        value
+            .saturating_mul(10)
+            .saturating_add(u32::from(digit.saturating_sub(b'0')))
+    });
+    value.min(BEYOND)
 }
 
 fn word(text: &[u8]) -> Found
     ensures { seen text.now (Some result) ≡ limited (word_at text.now) }
 {
-    let length = run(Class::Word, text);
-    let kind = word_kind(&text[0..length]);
+    let length = text
+        .iter()
+        .take_while(|byte| byte.is_ascii_alphanumeric())
+        .count();
+    let kind = word_kind(&text[..length]);
     Found { kind, length }
 }
 
 fn number(text: &[u8]) -> Option<Found>
     ensures { seen text.now result ≡ limited (number_at text.now) }
 {
-    let length = run(Class::Digit, text);
-    if length >= 2 && starts(text, b"0") {
-        return None;
+    let length = text.iter().take_while(|byte| byte.is_ascii_digit()).count();
+    match &text[..length] {
+        [b'0', _, ..] => None,
+        digits => Some(Found {
+            kind: Kind::Number(value(digits)),
+            length,
+        }),
     }
-    let value = value(&text[0..length]);
-    Some(Found {
-        kind: Kind::Number(value),
-        length,
-    })
 }
 
 fn head(text: &[u8]) -> Option<Found>
     ensures { seen text.now result ≡ limited (head_at text.now) }
 {
-    if !starts(text, b"#include") {
-        return None;
-    }
-    let rest = &text[8..];
-    let gap = run(Class::Gap, rest);
-    if !starts(&rest[gap..], b"<stdio.h>") {
-        return None;
-    }
-    // 8 bytes before the gap and 9 behind it
+    let behind = text.strip_prefix(b"#include")?;
+    let gap = behind
+        .iter()
+        .take_while(|byte| matches!(**byte, b' ' | b'\t'))
+        .count();
+    let rest = behind[gap..].strip_prefix(b"<stdio.h>")?;
     Some(Found {
         kind: Kind::Mark(Mark::Head),
-        length: 17 + gap,
+        length: text.len() - rest.len(),
     })
 }
 
@@ -140,12 +115,10 @@ fn symbol(text: &[u8]) -> Option<Found>
 pub fn scan_token(text: &[u8]) -> Option<Found>
     ensures { seen text.now result ≡ limited (scanned text.now) }
 {
-    let [first, ..] = text else {
-        return None;
-    };
-    if is_letter(*first) {
+    let first = text.first()?;
+    if first.is_ascii_alphabetic() {
         Some(word(text))
-    } else if is_digit(*first) {
+    } else if first.is_ascii_digit() {
         number(text)
     } else if *first == b'#' {
         head(text)

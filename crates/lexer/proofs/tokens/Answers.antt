@@ -1,31 +1,56 @@
-use Rattle.std.proofs.Common.{vec_items, sym, ◌∙◌, arith, rules}
-use Rattle.lexer.specs.Lex.{lexemes_of}
-use Rattle.lexer.proofs.Turns.{turn_sizes, after_blank, at_stray, after_token, all_read}
+use Rattle.std.proofs.Common.{◌≡◌, ◌-◌, List, ℕ, None, length, vec_items, sym, ap, subst, ◌∙◌, arith, rules, length-drop}
+use Rattle.std.proofs.lemmas.List.{take_rest}
+use Rattle.std.proofs.lemmas.Result.{err_from_is_err_and}
+use Rattle.lexer.specs.declared.refusal.Refusal.{Refusal}
+use Rattle.lexer.specs.declared.refusal.Refusal.TheVariants.{NoToken}
+use Rattle.lexer.specs.Scan.{seen}
+use Rattle.lexer.specs.Lex.{lexing, Strays}
+use Rattle.lexer.proofs.Turns.{ReadTo, scanned_sizes, told_none, blank_turn, stray_turn, token_turn}
 use Rattle.lexer.proofs.tokens.Goals as goal
 
-pub loop-at-preserved-then-is_blank : goal.loop-at-preserved-then-is_blank
-loop-at-preserved-then-is_blank c =
-    (omega arith, after_blank c.args.source.now (vec_items c.loop-at.tokens) c.loop-at.at c.loop-at-test.true c.loop-at.invariant.1 (sym c.if-is_blank.ensures))
+pub loop-first-preserved-then-is_blank : goal.loop-first-preserved-then-is_blank
+loop-first-preserved-then-is_blank c =
+    blank_turn c.args.source.now (vec_items c.loop-first.tokens) c.loop-first.rest.now _ _ c.in-Some.ensures.cases.0 c.loop-first.invariant (sym c.if-is_blank.ensures)
 
-pub returns-in-None : goal.returns-in-None
-returns-in-None c =
-    at_stray c.args.source.now (vec_items c.loop-at.tokens) c.loop-at.at c.loop-at-test.true c.loop-at.invariant.1 (sym c.if-is_blank.ensures) c.in-None.ensures
+pub returns-in_err-found : goal.returns-in_err-found
+returns-in_err-found c =
+    let s = c.args.source.now in
+    let rest = c.loop-first.rest.now in
+    let none : c.scan_token.result ≡ None = c.in_err-found.ensures.ok_part in
+    let e : Refusal = c.in_err-found.field-0.0 in
+    let told = told_none c.scan_token.result e (NoToken (length s - length rest)) none c.in_err-found.ensures.value in
+    let found = ap (λ o. seen rest o) (sym none) ∙ c.scan_token.ensures in
+    let P : Refusal → Type 0 = λ r. Strays (lexing s) r in
+    let strays : Strays (lexing s) e = subst P (sym told) (stray_turn s (vec_items c.loop-first.tokens) rest _ _ c.in-Some.ensures.cases.0 c.loop-first.invariant (sym c.if-is_blank.ensures) found) in
+    let p = err_from_is_err_and c.from_residual.result c.from_residual.ensures.1 in
+    rw (p.1, p.2) strays
 
-pub overflow_cast-token-in-Some : goal.overflow_cast-token-in-Some
-overflow_cast-token-in-Some c = let size = turn_sizes c.args.source.now c.loop-at.at c.loop-at-test.true c.in-Some.found c.in-Some.ensures in search rules
+pub overflow_cast-token : goal.overflow_cast-token
+overflow_cast-token c =
+    let size = scanned_sizes c.loop-first.rest.now _ c.in_ok-found.found c.scan_token.ensures c.in_ok-found.ensures.ok_part in
+    search rules
 
-pub overflow_add-at-in-Some : goal.overflow_add-at-in-Some
-overflow_add-at-in-Some c = let size = turn_sizes c.args.source.now c.loop-at.at c.loop-at-test.true c.in-Some.found c.in-Some.ensures in search rules
+pub slice_bounds-rest-count : goal.slice_bounds-rest-count
+slice_bounds-rest-count c =
+    let size = scanned_sizes c.loop-first.rest.now _ c.in_ok-found.found c.scan_token.ensures c.in_ok-found.ensures.ok_part in
+    size.1
 
-pub loop-at-smaller : goal.loop-at-smaller
-loop-at-smaller c = let size = turn_sizes c.args.source.now c.loop-at.at c.loop-at-test.true c.in-Some.found c.in-Some.ensures in omega arith
+pub slice_bounds-rest-start : goal.slice_bounds-rest-start
+slice_bounds-rest-start c =
+    let size = scanned_sizes c.loop-first.rest.now _ c.in_ok-found.found c.scan_token.ensures c.in_ok-found.ensures.ok_part in
+    search rules
 
-pub loop-at-preserved : goal.loop-at-preserved
-loop-at-preserved c =
-    let size = turn_sizes c.args.source.now c.loop-at.at c.loop-at-test.true c.in-Some.found c.in-Some.ensures in (
-      size.1,
-      after_token c.args.source.now (vec_items c.loop-at.tokens) c.loop-at.at c.loop-at-test.true c.loop-at.invariant.1 c.in-Some.found (vec_items c.push.new.self) (sym c.if-is_blank.ensures) c.in-Some.ensures c.in_ok-push-in-Some.ensures.items,
-    )
+pub loop-first-smaller : goal.loop-first-smaller
+loop-first-smaller c =
+    let size = scanned_sizes c.loop-first.rest.now _ c.in_ok-found.found c.scan_token.ensures c.in_ok-found.ensures.ok_part in
+    omega (arith, size.0, size.1, ap length (take_rest c.loop-first.rest.now c.in_ok-found.found.length), length-drop c.in_ok-found.found.length c.loop-first.rest.now)
 
-pub returns : goal.returns
-returns c = c.loop-at.invariant.1 ∙ all_read c.args.source.now c.loop-at.at (lexemes_of c.args.source.now (vec_items c.loop-at.tokens)) c.loop-at-test.false
+pub loop-first-preserved : goal.loop-first-preserved
+loop-first-preserved c =
+    let s = c.args.source.now in
+    let rest = c.loop-first.rest.now in
+    let f = c.in_ok-found.found in
+    let us = vec_items c.push.new.self in
+    let found = ap (λ o. seen rest o) (sym c.in_ok-found.ensures.ok_part) ∙ c.scan_token.ensures in
+    let P : List ℕ → Type 0 = λ l. ReadTo s us l (length s - length l) in
+    subst P (sym (take_rest rest f.length)) (token_turn s (vec_items c.loop-first.tokens) rest _ _ c.in-Some.ensures.cases.0 c.loop-first.invariant f us (sym c.if-is_blank.ensures) found c.in_ok-push.ensures.items)

@@ -1,12 +1,32 @@
-use Rattle.std.proofs.Common.{true, false}
+use Rattle.std.proofs.Common.{◌≡◌, ◌+◌, ◌-◌, length, ap, ◌∙◌, rules, tests, arith, length-drop}
+use Rattle.std.specs.List.{prefix_len}
 use Rattle.std.proofs.lemmas.List.{take_rest}
-use Rattle.lexer.proofs.Heads.{head_is}
+use Rattle.std.proofs.lemmas.List.Sums.{prefix_len-le-length}
+use Rattle.lexer.specs.Bytes.{gap}
+use Rattle.lexer.specs.Scan.{seen}
+use Rattle.lexer.proofs.Runs.{run_counted}
+use Rattle.lexer.proofs.Heads.{head_none, head_some}
 use Rattle.lexer.proofs.scan.head.Goals as goal
 
-pub returns-then-not-starts-2 : goal.returns-then-not-starts-2
-returns-then-not-starts-2 c =
-    head_is c.args.text.now _ _ c.run-gap.result false c.if-not-starts.ensures.value (take_rest c.args.text.now 8) c.run-gap.ensures.value (take_rest _ c.run-gap.result) c.if-not-starts-2.ensures.value
+pub returns-in_err-rest : goal.returns-in_err-rest
+returns-in_err-rest c =
+    let text = c.args.text.now in
+    let behind = c.in_ok-behind.behind.now in
+    let n = c.count-gap.result in
+    let run : n ≡ prefix_len gap behind =
+    run_counted _ gap behind c.take_while.result _ _ (cc) c.take_while.ensures.closure c.take_while.ensures.done (λ x b q k. search (rules, tests)) c.count-gap.ensures.ran in
+    let first = c.in_ok-behind.ensures.cases in
+    let last = c.in_err-rest.ensures.cases in
+    ap (seen text) c.from_residual-in_err-rest.ensures ∙ head_none text behind _ n first.0 first.1 run (take_rest behind n) last
 
 pub returns : goal.returns
 returns c =
-    head_is c.args.text.now _ _ c.run-gap.result true c.if-not-starts.ensures.value (take_rest c.args.text.now 8) c.run-gap.ensures.value (take_rest _ c.run-gap.result) c.if-not-starts-2.ensures.value
+    let text = c.args.text.now in
+    let behind = c.in_ok-behind.behind.now in
+    let n = c.count-gap.result in
+    let run : n ≡ prefix_len gap behind =
+    run_counted _ gap behind c.take_while.result _ _ (cc) c.take_while.ensures.closure c.take_while.ensures.done (λ x b q k. search (rules, tests)) c.count-gap.ensures.ran in
+    let first = c.in_ok-behind.ensures.cases in
+    let last = c.in_ok-rest.ensures.cases in
+    let long : length text - length c.in_ok-rest.rest.now ≡ 17 + n = omega (arith, run, first.2, last.2, prefix_len-le-length gap behind, ap length (take_rest behind n), length-drop n behind) in
+    head_some text behind _ n first.0 first.1 run (take_rest behind n) last.0 _ long

@@ -15,9 +15,8 @@ impl Reader<'_> {
         ensures takes { TakesNames self.old result self.new }
         ensures fewer { Fewer self.old result self.new }
     {
-        if let Some(_) = self.accept(Mark::Comma) {
+        while self.accept(Mark::Comma).is_some() {
             self.name()?;
-            return self.names();
         }
         self.expect(Mark::Semicolon)?;
         Ok(())
@@ -27,9 +26,9 @@ impl Reader<'_> {
         ensures takes { TakesDeclaration self.old result self.new }
         ensures fewer { Fewer self.old result self.new }
     {
-        let Some(_) = self.accept(Mark::Int) else {
+        if self.accept(Mark::Int).is_none() {
             return Ok(());
-        };
+        }
         self.name()?;
         self.names()
     }

@@ -1,14 +1,18 @@
+// Why tokens make no program.
 ghost use Rattle.std.specs.Prelude.{◌≡◌};
 ghost use Rattle.parser.specs.declared.refusal.Refusal.TheVariants.{NoMemory};
-// Why tokens make no program.
+
 use std::alloc::AllocFailed;
 
-// The tokens end too soon; they break the grammar, or a depth, at the token with this place; there is no memory for the tree.
-#[derive(Drop)]
+#[derive(Clone, Copy, PartialEq, Eq, Debug)]
 pub enum Refusal {
+    // The tokens end before the program does.
     TooSoon,
+    // The grammar allows no such token at this place.
     Grammar(u32),
+    // The token at this place needs more levels, or more parentheses, than there may be.
     Depth(u32),
+    // There is no memory for the tree.
     NoMemory,
 }
 

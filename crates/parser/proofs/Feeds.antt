@@ -1,15 +1,14 @@
 -- How what is read moves the automaton on.
-use Rattle.std.proofs.Common.{◌≡◌, ℕ, zero, suc, ◌<◌, ◌≤◌, Bool, true, false, cond, List, [], ◌∷◌, length, take, drop, IsErrAnd, Some, None, Ok, Err, Option, Result, sym, refl, ap, ◌∙◌, subst, true≢false, arith, MatchOption, MatchResult}
+use Rattle.std.proofs.Common.{◌≡◌, ℕ, zero, suc, ◌<◌, ◌≤◌, Bool, true, false, cond, List, [], ◌∷◌, take, drop, IsErrAnd, Some, None, Ok, Err, Option, Result, sym, refl, ap, ◌∙◌, subst, true≢false, arith, MatchOption, MatchResult}
 use Rattle.std.specs.Option.{is_some}
 use Rattle.syntax.specs.declared.token.Token as coded
 use Rattle.syntax.specs.declared.token.Kind as coded-kind
 use Rattle.syntax.specs.Tokens.{kind_of, tokens_of}
 use Rattle.grammar.specs.Kinds.{Kind, Mark, LeftParen, RightParen, Semicolon, Comma, Int, LeftBrace, If, Else, While, Token, mark, number, additive, multiplicative, Additive, Plus, Minus, Multiplicative, Times, Divide, Modulo, same}
-use Rattle.grammar.specs.Automaton.{Symbol, identifier, names, body, tail_entries, Frame, braces, whole, level, statement, tail, guard, bad, ifs, whiles, blocks, elses, closes, statement_entries, token, End, at_paren, at_semicolon, inside, expression, factor, products, sums, end, Step, next, Entry, pick, step, factor_entries, sum_entries, end_entries, go, feed, judged, judge, Verdict, short}
+use Rattle.grammar.specs.Automaton.{Symbol, identifier, names, body, tail_entries, Frame, braces, whole, level, statement, tail, guard, bad, ifs, whiles, blocks, elses, closes, statement_entries, token, End, at_paren, at_semicolon, inside, expression, factor, products, sums, end, Step, next, Entry, pick, step, factor_entries, sum_entries, end_entries, go, feed, judged, judge, Verdict}
 use Rattle.grammar.proofs.Forest.{carry, value, same_sound}
 use Rattle.parser.specs.declared.refusal.Refusal.{Refusal}
-use Rattle.parser.specs.declared.refusal.Refusal.TheVariants.{NoMemory}
-use Rattle.parser.specs.Readers.{tokens, Marks}
+use Rattle.parser.specs.Readers.{Marks}
 use Rattle.parser.specs.Statements.{end_of, closed}
 use Rattle.parser.specs.Reads.{token_at, is_additive, is_multiplicative, starts, Peeks, Refuses}
 

@@ -14,8 +14,8 @@ use Rattle.syntax.specs.declared.tree.Expression.{Expression}
 use Rattle.syntax.specs.TreeOf.{name_of, factor_of, term_of, expression_of}
 use Rattle.grammar.specs.Kinds.{Token, Mark, Relation}
 use Rattle.grammar.specs.Kinds as kind
-use Rattle.grammar.specs.Grammar.{factor_parens, products_parens, term_parens, sums_parens, expression_parens, factor_onto, products_onto, term_onto, sums_onto, expression_onto}
-use Rattle.grammar.specs.Placed.{factor_at, products_at, term_at, sums_at, expression_at}
+use Rattle.grammar.specs.Grammar.{factor_parens, term_parens, expression_parens, factor_onto, term_onto, expression_onto}
+use Rattle.grammar.specs.Placed.{factor_at, term_at, expression_at}
 use Rattle.grammar.specs.Automaton.{End, at_paren, at_relation, Symbol, token, identifier, zero_number, expression, factor, products, sums, end}
 use Rattle.parser.specs.declared.reader.Reader.{Reader}
 use Rattle.parser.specs.declared.refusal.Refusal.{Refusal}

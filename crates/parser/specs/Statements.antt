@@ -8,11 +8,11 @@
 --                     one of each kind behind its first token
 --   TakesStatements   statements up to the token behind them
 use Rattle.std.specs.Prelude.{◌≡◌, ℕ, ◌<◌, List, [], ◌∷◌, length, Result, OnOk}
-use Rattle.grammar.specs.Kinds.{Token, Mark, Return, LeftParen, RightParen, RightBrace, Comma, Semicolon, Ampersand, Assign, Format, mark}
+use Rattle.grammar.specs.Kinds.{Token, Mark, Return, RightParen, RightBrace, Semicolon, Assign}
 use Rattle.grammar.specs.Automaton.{at_semicolon, Frame, braces, whole, level, guard, Symbol, token, identifier, zero_number, expression, statement, tail}
 use Rattle.parser.specs.declared.reader.Reader.{Reader}
 use Rattle.parser.specs.declared.refusal.Refusal.{Refusal}
-use Rattle.parser.specs.Reads.{left, ahead, token_at, Reads}
+use Rattle.parser.specs.Reads.{left, ahead, Reads}
 use Rattle.parser.specs.Readers.{tokens}
 
 abbrev pub Less : {X : Type 0} → Reader → Result X Refusal → Reader → Type 0

@@ -26,11 +26,11 @@ impl Reader<'_> {
         ensures takes { TakesDeclaration self.old result self.new }
         ensures fewer { Fewer self.old result self.new }
     {
-        if self.accept(Mark::Int).is_none() {
-            return Ok(());
+        if self.accept(Mark::Int).is_some() {
+            self.name()?;
+            self.names()?;
         }
-        self.name()?;
-        self.names()
+        Ok(())
     }
 
     pub fn program(&mut self) -> Result<(), Refusal>

@@ -20,8 +20,7 @@ impl Reader<'_> {
     pub fn next(&mut self) -> Result<Token, Refusal>
         ensures read { MatchResult result (λ t. left self.old ≡ t ∷ left self.new) (λ e. (left self.old ≡ []) × (e ≡ Refusal.TooSoon)) }
     {
-        let first = self.rest.split_off_first().ok_or(Refusal::TooSoon)?;
-        Ok(*first)
+        self.rest.split_off_first().copied().ok_or(Refusal::TooSoon)
     }
 
     // Reads the next token as what `form` makes of it, if anything.

@@ -6,13 +6,13 @@ use std::alloc::AllocFailed;
 
 #[derive(Clone, Copy, PartialEq, Eq, Debug)]
 pub enum Refusal {
-    // The tokens end before the program does.
+    // the tokens end too soon
     TooSoon,
-    // The grammar allows no such token at this place.
+    // the token at this place breaks the grammar
     Grammar(u32),
-    // The token at this place needs more levels, or more parentheses, than there may be.
+    // the token at this place goes deeper than its depth allows
     Depth(u32),
-    // There is no memory for the tree.
+    // there is no memory for the tree
     NoMemory,
 }
 

@@ -76,10 +76,10 @@ impl Reader<'_> {
     {
         self.condition()?;
         self.statement(depth)?;
-        if self.accept(Mark::Else).is_none() {
-            return Ok(());
+        if self.accept(Mark::Else).is_some() {
+            self.statement(depth)?;
         }
-        self.statement(depth)
+        Ok(())
     }
 
     #[cycle(statement_readers)]

@@ -1,4 +1,4 @@
-use Rattle.std.proofs.Common.{rules, [], ◌∷◌, refl, ap, ◌∙◌, arith}
+use Rattle.std.proofs.Common.{rules, [], ◌∷◌, sym, refl, ap, ◌∙◌, arith}
 use Rattle.syntax.specs.declared.token.Kind.TheVariants as code
 use Rattle.grammar.specs.Kinds.{Scanf, Printf, LeftParen, RightParen, Format, Comma, Semicolon, Ampersand, Assign}
 use Rattle.grammar.specs.Automaton.{at_semicolon, braces, token, identifier, expression, statement, tail}
@@ -54,19 +54,26 @@ if_statement-returns-in_err-statement-clause-takes t c = λ source es x s.
     (c.in_ok-condition.ensures.takes source (statement 32 c.args.depth (c.args.depth ∷ es) x ∷ s)).0
     (c.in_err-statement.ensures.takes source (c.args.depth ∷ es) x s)
 
-pub if_statement-returns-then-is_none-clause-takes : goal.if_statement-returns-then-is_none-clause-takes
-if_statement-returns-then-is_none-clause-takes t c = λ source es x s. (
+pub if_statement-returns-else-is_some-clause-takes : goal.if_statement-returns-else-is_some-clause-takes
+if_statement-returns-else-is_some-clause-takes t c = λ source es x s. (
   (c.in_ok-condition.ensures.takes source (statement 32 c.args.depth (c.args.depth ∷ es) x ∷ s)).0 ∙ (c.in_ok-statement.ensures.takes source (c.args.depth ∷ es) x s).0
-      ∙ no_else _ _ (missed _ _ c.accept.result c.if-is_none.ensures (c.accept.ensures.read source)) c.args.depth es x s,
+      ∙ no_else _ _ (missed _ _ c.accept.result (sym c.if-is_some.ensures) (c.accept.ensures.read source)) c.args.depth es x s,
   tt,
 )
 
-pub if_statement-returns-clause-takes : goal.if_statement-returns-clause-takes
-if_statement-returns-clause-takes t c = λ source es x s.
-    onward _ _ _ c.statement-2.result
+pub if_statement-returns-in_err-statement-2-clause-takes : goal.if_statement-returns-in_err-statement-2-clause-takes
+if_statement-returns-in_err-statement-2-clause-takes t c = λ source es x s.
+    gone _ c.from_residual-in_err-statement-2.result _ c.from_residual-in_err-statement-2.ensures.1
     ((c.in_ok-condition.ensures.takes source (statement 32 c.args.depth (c.args.depth ∷ es) x ∷ s)).0 ∙ (c.in_ok-statement.ensures.takes source (c.args.depth ∷ es) x s).0
-    ∙ else_read (met _ _ c.accept.result c.if-is_none.ensures (c.accept.ensures.read source)).1 c.args.depth es x s)
-    (λ x h. tt) (c.statement-2.ensures.takes source es x s)
+    ∙ else_read (met _ _ c.accept.result (sym c.if-is_some.ensures) (c.accept.ensures.read source)).1 c.args.depth es x s)
+    (c.in_err-statement-2.ensures.takes source es x s)
+
+pub if_statement-returns-in_ok-statement-2-clause-takes : goal.if_statement-returns-in_ok-statement-2-clause-takes
+if_statement-returns-in_ok-statement-2-clause-takes t c = λ source es x s. (
+  (c.in_ok-condition.ensures.takes source (statement 32 c.args.depth (c.args.depth ∷ es) x ∷ s)).0 ∙ (c.in_ok-statement.ensures.takes source (c.args.depth ∷ es) x s).0
+      ∙ else_read (met _ _ c.accept.result (sym c.if-is_some.ensures) (c.accept.ensures.read source)).1 c.args.depth es x s ∙ (c.in_ok-statement-2.ensures.takes source es x s).0,
+  tt,
+)
 
 pub while_statement-returns-in_err-condition-clause-takes : goal.while_statement-returns-in_err-condition-clause-takes
 while_statement-returns-in_err-condition-clause-takes t c = λ source es x s.

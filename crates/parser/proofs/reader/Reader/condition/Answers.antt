@@ -1,5 +1,4 @@
-use Rattle.std.proofs.Common.{◌∷◌, refl, ◌∙◌, arith}
-use Rattle.std.proofs.lemmas.Result.{IfOk-from_err}
+use Rattle.std.proofs.Common.{◌∷◌, refl, ◌∙◌}
 use Rattle.grammar.specs.Automaton.{at_paren, at_relation, expression}
 use Rattle.parser.specs.Reads.{ahead}
 use Rattle.parser.proofs.Feeds.{gone, at_paren_lem}

@@ -1,6 +1,5 @@
 use Rattle.std.proofs.Common.{◌∷◌, sym, refl, ◌∙◌, arith}
 use Rattle.grammar.specs.Automaton.{names, identifier}
-use Rattle.parser.specs.Reads.{ahead}
 use Rattle.parser.proofs.Feeds.{gone, peeked_fewer, missed, met, taken, no_comma}
 use Rattle.parser.proofs.reader.Reader.names.Goals as goal
 

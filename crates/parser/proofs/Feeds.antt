@@ -3,6 +3,7 @@ use Rattle.std.proofs.Common.{◌≡◌, ℕ, zero, suc, ◌<◌, ◌≤◌, Boo
 use Rattle.std.specs.Option.{is_some}
 use Rattle.syntax.specs.declared.token.Token as coded
 use Rattle.syntax.specs.declared.token.Kind as coded-kind
+use Rattle.syntax.specs.declared.token.Kind.TheVariants as code
 use Rattle.syntax.specs.Tokens.{kind_of, tokens_of}
 use Rattle.grammar.specs.Kinds.{Kind, Mark, LeftParen, RightParen, Semicolon, Comma, Int, LeftBrace, If, Else, While, Token, mark, number, additive, multiplicative, Additive, Plus, Minus, Multiplicative, Times, Divide, Modulo, same}
 use Rattle.grammar.specs.Automaton.{Symbol, identifier, names, body, tail_entries, Frame, braces, whole, level, statement, tail, guard, bad, ifs, whiles, blocks, elses, closes, statement_entries, token, End, at_paren, at_semicolon, inside, expression, factor, products, sums, end, Step, next, Entry, pick, step, factor_entries, sum_entries, end_entries, go, feed, judged, judge, Verdict}
@@ -43,6 +44,9 @@ met P Q (Some x) e h = (x, h)
 -- the first token is of the kind k
 pub read_as : (source : List ℕ) {us vs : List coded.Token} {t : coded.Token} {k : coded-kind.Kind} → us ≡ t ∷ vs → t.kind ≡ k → tokens_of source us ≡ token_at (kind_of k (take t.length (drop t.place source))) t.place ∷ tokens_of source vs
 read_as source {us} {vs} {t} e q = ap (tokens_of source) e ∙ ap (λ k. token_at (kind_of k (take t.length (drop t.place source))) t.place ∷ tokens_of source vs) q
+
+pub read_mark : (source : List ℕ) {us vs : List coded.Token} {t : coded.Token} {m : Mark} (k : Mark) → us ≡ t ∷ vs → t.kind ≡ code.Mark m → m ≡ k → tokens_of source us ≡ token_at (mark k) t.place ∷ tokens_of source vs
+read_mark source k e q h = read_as source e (q ∙ ap code.Mark h)
 
 -- a first token whose step is known
 pub taken : {us vs : List Token} {k : Kind} {p : ℕ} → us ≡ token_at k p ∷ vs → (s t : List Symbol) → step s k ≡ next t → judge us s ≡ judge vs t

@@ -3,8 +3,8 @@
 --   token_at      a token of this kind at this place
 --   starts        whether the first token has such a kind
 --   Peeks         a token that is read only if it comes next
---   Picks         a token that is read if it is one of some form, and is left there else
---   Needs         a token that must be of some form
+--   Picks         a token that is read if it is one of some form, and is left there else (Unread)
+--   Needs         a token that must be of some form, and is refused else (Unfit)
 --   Refuses       the automaton's verdict, as a refusal
 --   Reads         tokens are read as what was expected, or refused as the automaton refuses them
 --   Spells        tokens are those of a parse tree that fits, with this syntax tree, and then these are left

@@ -10,12 +10,12 @@ use syntax::token::{Additive, Kind, Mark};
 use syntax::tree::{Expression, Factor, Name, Term};
 
 impl Reader<'_> {
+    // `term` has a loop like this one: one for both would take closures for operator, operand and node, and be longer.
     #[cycle(expression_readers)]
     pub fn expression(&mut self, parens: u32) -> Result<Expression, Refusal>
         ensures reads { ReadsExpression self.old parens result self.new }
         ensures fewer { Fewer self.old result self.new }
     {
-        // Its loop is like that of `term`: one for both would take three closures, and make no reader shorter.
         let sign = self.additive();
         let mut sum = signed(sign, self.term(parens)?);
         while let Some((operator, place)) = self.additive() {

@@ -1,10 +1,9 @@
 use Rattle.std.proofs.Common.{rules, [], ◌∷◌, refl, ap, ◌∙◌, arith}
-use Rattle.syntax.specs.declared.token.Kind.TheVariants.{Mark}
 use Rattle.syntax.specs.TreeOf.{expression_of, term_of}
 use Rattle.grammar.specs.Kinds.{LeftParen}
 use Rattle.grammar.specs.Automaton.{at_paren, factor, products}
 use Rattle.parser.specs.Reads.{ahead}
-use Rattle.parser.proofs.Feeds.{gone, onward, read_as, peeked_fewer, taken, at_paren_lem, number_read, sign_read, sum_read, no_sum, product_read, no_product, paren_read}
+use Rattle.parser.proofs.Feeds.{gone, onward, read_as, read_mark, peeked_fewer, taken, at_paren_lem, number_read, sign_read, sum_read, no_sum, product_read, no_product, paren_read}
 use Rattle.parser.proofs.Spelled.{refitted, products_end, sums_end, variable_spelled, literal_spelled, paren_spelled, term_spelled, product_spelled, sum_spelled, expression_spelled}
 use Rattle.parser.proofs.reader.Reader.+expression_readers.Goals as goal
 
@@ -51,7 +50,7 @@ factor-returns-in-Number-clause-reads t c = λ source x s.
 
 pub factor-returns-in_ok-deeper-in-Mark-LeftParen-clause-reads : goal.factor-returns-in_ok-deeper-in-Mark-LeftParen-clause-reads
 factor-returns-in_ok-deeper-in-Mark-LeftParen-clause-reads t c = λ source x s.
-    let paren = read_as source c.in_ok-token.ensures.read (c.in-Mark-LeftParen.is ∙ ap Mark {y = LeftParen} (search rules)) in
+    let paren = read_mark source LeftParen c.in_ok-token.ensures.read c.in-Mark-LeftParen.is (search rules) in
     onward _ _ _ c.parenthesized.result
     (paren_read paren c.in_ok-deeper-in-Mark-LeftParen.ensures x s)
     (λ f h. refitted c.args.parens _ paren c.in_ok-deeper-in-Mark-LeftParen.ensures (h c.in_ok-token.token.place))

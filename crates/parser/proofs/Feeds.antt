@@ -1,13 +1,15 @@
 -- How what is read moves the automaton on.
-use Rattle.std.proofs.Common.{◌≡◌, ℕ, zero, suc, ◌<◌, ◌≤◌, Bool, true, false, cond, List, [], ◌∷◌, length, IsErrAnd, IfOk, Some, None, Ok, Err, Option, Result, sym, refl, ap, ◌∙◌, subst, true≢false, arith, MatchOption, MatchResult}
+use Rattle.std.proofs.Common.{◌≡◌, ℕ, zero, suc, ◌<◌, ◌≤◌, Bool, true, false, cond, List, [], ◌∷◌, take, drop, IsErrAnd, Some, None, Ok, Err, Option, Result, sym, refl, ap, ◌∙◌, subst, true≢false, arith, MatchOption, MatchResult}
+use Rattle.std.specs.Option.{is_some}
 use Rattle.syntax.specs.declared.token.Token as coded
-use Rattle.syntax.specs.Tokens.{tokens_of}
+use Rattle.syntax.specs.declared.token.Kind as coded-kind
+use Rattle.syntax.specs.declared.token.Kind.TheVariants as code
+use Rattle.syntax.specs.Tokens.{kind_of, tokens_of}
 use Rattle.grammar.specs.Kinds.{Kind, Mark, LeftParen, RightParen, Semicolon, Comma, Int, LeftBrace, If, Else, While, Token, mark, number, additive, multiplicative, Additive, Plus, Minus, Multiplicative, Times, Divide, Modulo, same}
-use Rattle.grammar.specs.Automaton.{Symbol, identifier, names, body, tail_entries, Frame, braces, whole, level, statement, tail, guard, bad, ifs, whiles, blocks, elses, closes, statement_entries, token, End, at_paren, at_semicolon, inside, expression, factor, products, sums, end, Step, next, Entry, pick, step, factor_entries, sum_entries, end_entries, go, feed, judged, judge, Verdict, short}
+use Rattle.grammar.specs.Automaton.{Symbol, identifier, names, body, tail_entries, Frame, braces, whole, level, statement, tail, guard, bad, ifs, whiles, blocks, elses, closes, statement_entries, token, End, at_paren, at_semicolon, inside, expression, factor, products, sums, end, Step, next, Entry, pick, step, factor_entries, sum_entries, end_entries, go, feed, judged, judge, Verdict}
 use Rattle.grammar.proofs.Forest.{carry, value, same_sound}
 use Rattle.parser.specs.declared.refusal.Refusal.{Refusal}
-use Rattle.parser.specs.declared.refusal.Refusal.TheVariants.{NoMemory}
-use Rattle.parser.specs.Readers.{tokens, Marks}
+use Rattle.parser.specs.Readers.{Marks}
 use Rattle.parser.specs.Statements.{end_of, closed}
 use Rattle.parser.specs.Reads.{token_at, is_additive, is_multiplicative, starts, Peeks, Refuses}
 
@@ -18,37 +20,33 @@ pub gone : {X : Type 0} {o q : Verdict} (P : X → Type 0) (r : Result X Refusal
 gone P (Ok x) e h w f = absurd h
 gone {q = q} P (Err y) e h w f = subst (λ n. Refuses n y) (sym w) (subst (Refuses q) (sym h) f)
 
--- the exit for want of memory
-pub unmade : {X : Type 0} (o : Verdict) (P : X → Type 0) (r : Result X Refusal) → IsErrAnd r (λ y. y ≡ NoMemory) → MatchResult r P (λ y. Refuses o y)
-unmade o P (Ok x) h = absurd h
-unmade o P (Err y) h = subst (Refuses o) (sym h) tt
-
 -- the last call's result, returned
 pub onward : {X : Type 0} {o q : Verdict} (v : Verdict) (T U : X → Type 0) (r : Result X Refusal) → o ≡ q → ((x : X) → T x → U x) → MatchResult r (λ x. (q ≡ v) × T x) (λ e. Refuses q e) → MatchResult r (λ x. (o ≡ v) × U x) (λ e. Refuses o e)
 onward v T U (Ok x) w f h = (w ∙ h.0, f x h.1)
 onward v T U (Err y) w f h = subst (λ n. Refuses n y) (sym w) h
 
--- what a last call leaves is no more than there was before it
-pub fewer_behind : {X Y : Type 0} (z a b : ℕ) (r : Result X Y) → a ≤ b → IfOk r (λ _. z ≤ a) → IfOk r (λ _. z ≤ b)
-fewer_behind z a b (Ok x) h k = omega arith
-fewer_behind z a b (Err y) h k = tt
-
-pub less_behind : {X Y : Type 0} (z a b : ℕ) (r : Result X Y) → a < b → IfOk r (λ _. z ≤ a) → IfOk r (λ _. z < b)
-less_behind z a b (Ok x) h k = omega arith
-less_behind z a b (Err y) h k = tt
-
-pub fewer_of_less : {X Y : Type 0} (z a b : ℕ) (r : Result X Y) → a ≤ b → IfOk r (λ _. z < a) → IfOk r (λ _. z ≤ b)
-fewer_of_less z a b (Ok x) h k = omega arith
-fewer_of_less z a b (Err y) h k = tt
-
+-- no token is added, read or not
 pub peeked_fewer : {X : Type 0} (a b : ℕ) (r : Option X) → MatchOption r (a ≤ b) (λ _. a < b) → a ≤ b
 peeked_fewer a b None h = h
 peeked_fewer a b (Some x) h = omega arith
 
+-- what is known of an option whose case is known
+pub missed : {X : Type 0} (P : Type 0) (Q : X → Type 0) (r : Option X) → is_some r ≡ false → MatchOption r P Q → P
+missed P Q None e h = h
+missed P Q (Some x) e h = absurd (true≢false e)
+
+pub met : {X : Type 0} (P : Type 0) (Q : X → Type 0) (r : Option X) → is_some r ≡ true → MatchOption r P Q → (x : X) × Q x
+met P Q None e h = absurd (true≢false (sym e))
+met P Q (Some x) e h = (x, h)
+
 -- ── the first token ──
 
-pub ended : (source : List ℕ) {us : List coded.Token} → us ≡ [] → (y : Symbol) (s : List Symbol) → judge (tokens_of source us) (y ∷ s) ≡ short
-ended source e y s = ap (λ l. judge (tokens_of source l) (y ∷ s)) e
+-- the first token is of the kind k
+pub read_as : (source : List ℕ) {us vs : List coded.Token} {t : coded.Token} {k : coded-kind.Kind} → us ≡ t ∷ vs → t.kind ≡ k → tokens_of source us ≡ token_at (kind_of k (take t.length (drop t.place source))) t.place ∷ tokens_of source vs
+read_as source {us} {vs} {t} e q = ap (tokens_of source) e ∙ ap (λ k. token_at (kind_of k (take t.length (drop t.place source))) t.place ∷ tokens_of source vs) q
+
+pub read_mark : (source : List ℕ) {us vs : List coded.Token} {t : coded.Token} {m : Mark} (k : Mark) → us ≡ t ∷ vs → t.kind ≡ code.Mark m → m ≡ k → tokens_of source us ≡ token_at (mark k) t.place ∷ tokens_of source vs
+read_mark source k e q h = read_as source e (q ∙ ap code.Mark h)
 
 -- a first token whose step is known
 pub taken : {us vs : List Token} {k : Kind} {p : ℕ} → us ≡ token_at k p ∷ vs → (s t : List Symbol) → step s k ≡ next t → judge us s ≡ judge vs t
@@ -175,18 +173,15 @@ no_else us vs h e es x s =
     (λ k n. pass (mark Else, elses 32 (e ∷ es) x s) rest k n ∙ sym (pass (mark Else, elses 32 es x s) rest k n))
     ∙ ap (λ l. judge l (tail 32 es x ∷ s)) (sym h.0)
 
--- the first token of a statement is known by its mark
-pub keyword_is : {m k : Mark} (n d : ℕ) (us : List Token) (es : List ℕ) (x : Frame) (s : List Symbol) → m ≡ k → judge (token_at (mark m) n ∷ us) (statement 32 d es x ∷ s) ≡ judge (token_at (mark k) n ∷ us) (statement 32 d es x ∷ s)
-keyword_is n d us es x s e = ap (λ m. judge (token_at (mark m) n ∷ us) (statement 32 d es x ∷ s)) e
+-- the word of a statement that has levels below it
+pub if_read : {us vs : List Token} {n d e : ℕ} → us ≡ token_at (mark If) n ∷ vs → d ≡ suc e → (es : List ℕ) (x : Frame) (s : List Symbol) → judge us (statement 32 d es x ∷ s) ≡ judge vs (guard 32 (statement 32 e (e ∷ es) x ∷ s))
+if_read {vs = vs} {n = n} {d = d} q h es x s = ap (λ l. judge l (statement 32 d es x ∷ s)) q ∙ ap (λ d. judged (go (feed vs) n (ifs 32 d es x s))) h
 
-pub if_read : (us : List Token) (n : ℕ) {d e : ℕ} → d ≡ suc e → (es : List ℕ) (x : Frame) (s : List Symbol) → judge (token_at (mark If) n ∷ us) (statement 32 d es x ∷ s) ≡ judge us (guard 32 (statement 32 e (e ∷ es) x ∷ s))
-if_read us n h es x s = ap (λ d. judged (go (feed us) n (ifs 32 d es x s))) h
+pub while_read : {us vs : List Token} {n d e : ℕ} → us ≡ token_at (mark While) n ∷ vs → d ≡ suc e → (es : List ℕ) (x : Frame) (s : List Symbol) → judge us (statement 32 d es x ∷ s) ≡ judge vs (guard 32 (statement 32 e es x ∷ s))
+while_read {vs = vs} {n = n} {d = d} q h es x s = ap (λ l. judge l (statement 32 d es x ∷ s)) q ∙ ap (λ d. judged (go (feed vs) n (whiles 32 d es x s))) h
 
-pub while_read : (us : List Token) (n : ℕ) {d e : ℕ} → d ≡ suc e → (es : List ℕ) (x : Frame) (s : List Symbol) → judge (token_at (mark While) n ∷ us) (statement 32 d es x ∷ s) ≡ judge us (guard 32 (statement 32 e es x ∷ s))
-while_read us n h es x s = ap (λ d. judged (go (feed us) n (whiles 32 d es x s))) h
-
-pub block_read : (us : List Token) (n : ℕ) {d e : ℕ} → d ≡ suc e → (es : List ℕ) (x : Frame) (s : List Symbol) → judge (token_at (mark LeftBrace) n ∷ us) (statement 32 d es x ∷ s) ≡ judge us (statement 32 e [] (braces e) ∷ (tail 32 es x ∷ s))
-block_read us n h es x s = ap (λ d. judged (go (feed us) n (blocks 32 d es x s))) h
+pub block_read : {us vs : List Token} {n d e : ℕ} → us ≡ token_at (mark LeftBrace) n ∷ vs → d ≡ suc e → (es : List ℕ) (x : Frame) (s : List Symbol) → judge us (statement 32 d es x ∷ s) ≡ judge vs (statement 32 e [] (braces e) ∷ (tail 32 es x ∷ s))
+block_read {vs = vs} {n = n} {d = d} q h es x s = ap (λ l. judge l (statement 32 d es x ∷ s)) q ∙ ap (λ d. judged (go (feed vs) n (blocks 32 d es x s))) h
 
 -- ── declarations ──
 
@@ -203,10 +198,6 @@ no_comma us vs h s =
     ∙ ap (λ l. judge l (token Semicolon ∷ s)) (sym h.0)
 
 -- ── tokens in a row ──
-
-pub no_marks : (ms : List Mark) (us : List Token) (s : List Symbol) → length ms < 1 → (judge us (tokens ms s) ≡ judge us s) × Marks ms us us
-no_marks [] us s h = (refl, refl)
-no_marks (m ∷ ms) us s h = absurd (omega arith)
 
 pub more_marks : {ms ns : List Mark} {m : Mark} {us vs : List Token} {p : ℕ} (ws : List Token) → ms ≡ m ∷ ns → us ≡ token_at (mark m) p ∷ vs → Marks ns vs ws → Marks ms us ws
 more_marks {us = us} {vs = vs} {p = p} ws e q h = subst (λ l. Marks l us ws) (sym e) (p, vs, q, h)

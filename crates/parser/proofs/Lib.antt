@@ -1,4 +1,3 @@
-pub mod Fronts
 pub mod Feeds
 pub mod Spelled
 pub mod Whole

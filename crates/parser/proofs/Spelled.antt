@@ -11,24 +11,21 @@ use Rattle.parser.specs.Reads.{token_at, is_additive, Peeks, Spells, signed_by}
 pub respelled : {P A : Type 0} (onto : P → List Kind → List Kind) (at : P → List Token → A × List Token) (F : P → Type 0) {us vs ws : List Token} {a : A} → us ≡ vs → Spells onto at F vs a ws → Spells onto at F us a ws
 respelled onto at F {ws = ws} {a = a} e h = subst (λ l. Spells onto at F l a ws) (sym e) h
 
-pub retreed : {P A : Type 0} (onto : P → List Kind → List Kind) (at : P → List Token → A × List Token) (F : P → Type 0) {us vs : List Token} {a b : A} → a ≡ b → Spells onto at F us b vs → Spells onto at F us a vs
-retreed onto at F {us} {vs} e h = subst (λ x. Spells onto at F us x vs) (sym e) h
-
 module _ (p : ℕ) where
   abbrev IsFactor : List Token → Factor Name → List Token → Type 0
   IsFactor = Spells factor_onto factor_at (λ u. factor_parens u ≤ p)
 
-  abbrev IsTerm : List Token → Term Name → List Token → Type 0
+  abbrev pub IsTerm : List Token → Term Name → List Token → Type 0
   IsTerm = Spells term_onto term_at (λ u. term_parens u ≤ p)
 
-  abbrev IsExpression : List Token → Expression Name → List Token → Type 0
+  abbrev pub IsExpression : List Token → Expression Name → List Token → Type 0
   IsExpression = Spells expression_onto expression_at (λ u. expression_parens u ≤ p)
 
   -- from the first factor f, the factors read make t
-  abbrev AreProducts : Term Name → List Token → Term Name → List Token → Type 0
+  abbrev pub AreProducts : Term Name → List Token → Term Name → List Token → Type 0
   AreProducts f = Spells products_onto (λ u. products_at u f) (λ u. products_parens u ≤ p)
 
-  abbrev AreSums : Expression Name → List Token → Expression Name → List Token → Type 0
+  abbrev pub AreSums : Expression Name → List Token → Expression Name → List Token → Type 0
   AreSums f = Spells sums_onto (λ u. sums_at u f) (λ u. sums_parens u ≤ p)
 
   pub products_end : {us vs : List Token} (t : Term Name) → vs ≡ us → AreProducts t us t vs

@@ -1,10 +1,11 @@
 -- From the automaton's verdict to programs.
-use Rattle.std.proofs.Common.{◌≡◌, ℕ, List, [], ◌∷◌, Ok, Err, Result, ap, ◌∙◌, MatchResult}
+use Rattle.std.proofs.Common.{◌≡◌, ℕ, List, [], ◌∷◌, Some, None, Ok, Err, Result, ap, ◌∙◌, arith, MatchResult}
+use Rattle.std.specs.List.{slice_get}
 use Rattle.syntax.specs.declared.token.Token as coded
 use Rattle.syntax.specs.Tokens.{tokens_of}
 use Rattle.grammar.specs.Kinds.{Token, kinds}
 use Rattle.grammar.specs.Grammar.{Program}
-use Rattle.grammar.specs.Automaton.{judge, good, start}
+use Rattle.grammar.specs.Automaton.{judge, good, wrong, start}
 use Rattle.grammar.proofs.Verdicts.{judges}
 use Rattle.parser.specs.declared.refusal.Refusal.{Refusal}
 use Rattle.parser.specs.declared.refusal.Refusal.TheVariants.{TooSoon, Grammar, Depth, NoMemory}
@@ -21,8 +22,10 @@ pub answered : {X : Type 0} (ts : List Token) (r : Result X Refusal) → MatchRe
 answered ts (Ok x) h = (judges 31 32 ts).0.0 h
 answered ts (Err e) h = refused ts e h
 
-pub all_read : (source : List ℕ) (us vs : List coded.Token) → judge (tokens_of source us) (start 31 32) ≡ judge (tokens_of source vs) [] → vs ≡ [] → Program 32 32 (kinds (tokens_of source us))
-all_read source us vs h e = (judges 31 32 (tokens_of source us)).0.0 (h ∙ ap (λ l. judge (tokens_of source l) []) e)
+pub all_read : (source : List ℕ) (us vs : List coded.Token) → judge (tokens_of source us) (start 31 32) ≡ judge (tokens_of source vs) [] → None ≡ slice_get vs 0 → Program 32 32 (kinds (tokens_of source us))
+all_read source us [] h e = (judges 31 32 (tokens_of source us)).0.0 h
+all_read source us (v ∷ vs) h e = grind arith
 
-pub more_left : (source : List ℕ) (us vs ws : List coded.Token) (t : coded.Token) → judge (tokens_of source us) (start 31 32) ≡ judge (tokens_of source vs) [] → vs ≡ t ∷ ws → Refused (tokens_of source us) (Grammar t.place)
-more_left source us vs ws t h e = ((judges 31 32 (tokens_of source us)).2 4 t.place).0 (h ∙ ap (λ l. judge (tokens_of source l) []) e)
+pub more_left : (source : List ℕ) (us vs : List coded.Token) (t : coded.Token) → judge (tokens_of source us) (start 31 32) ≡ judge (tokens_of source vs) [] → Some t ≡ slice_get vs 0 → Refused (tokens_of source us) (Grammar t.place)
+more_left source us [] t h e = grind arith
+more_left source us (v ∷ vs) t h e = ((judges 31 32 (tokens_of source us)).2 4 t.place).0 (h ∙ ap (λ p. wrong 4 p) (grind arith))

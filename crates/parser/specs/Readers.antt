@@ -1,12 +1,12 @@
 -- What each reader promises: what is expected before and after it, and which tree the tokens between spell.
 --   Fewer                                 no token is added
+--   FewerIf                               nor is one, and one goes if it is read
 --   ReadsMark, ReadsMarks                 one token with one spelling; several in a row
 --   ReadsName, ReadsRelation, ReadsZero   a name; a relation; the number 0
 --   ReadsFactor, ReadsTerm, ReadsExpression
 --                                         the three levels of an expression, with so many parentheses to spare
 --   ReadsParenthesized                    a factor, behind its open parenthesis
---   ReadsProducts, ReadsSums              what follows a first factor or term
-use Rattle.std.specs.Prelude.{◌≡◌, ℕ, suc, ◌≤◌, List, [], ◌∷◌, length, Result, OnOk}
+use Rattle.std.specs.Prelude.{◌≡◌, ℕ, suc, ◌<◌, ◌≤◌, List, [], ◌∷◌, length, Option, Result, OnOk, MatchOption}
 use Rattle.syntax.specs.declared.tree.Name.{Name}
 use Rattle.syntax.specs.declared.tree.Factor.{Factor}
 use Rattle.syntax.specs.declared.tree.Term.{Term}
@@ -14,8 +14,8 @@ use Rattle.syntax.specs.declared.tree.Expression.{Expression}
 use Rattle.syntax.specs.TreeOf.{name_of, factor_of, term_of, expression_of}
 use Rattle.grammar.specs.Kinds.{Token, Mark, Relation}
 use Rattle.grammar.specs.Kinds as kind
-use Rattle.grammar.specs.Grammar.{factor_parens, products_parens, term_parens, sums_parens, expression_parens, factor_onto, products_onto, term_onto, sums_onto, expression_onto}
-use Rattle.grammar.specs.Placed.{factor_at, products_at, term_at, sums_at, expression_at}
+use Rattle.grammar.specs.Grammar.{factor_parens, term_parens, expression_parens, factor_onto, term_onto, expression_onto}
+use Rattle.grammar.specs.Placed.{factor_at, term_at, expression_at}
 use Rattle.grammar.specs.Automaton.{End, at_paren, at_relation, Symbol, token, identifier, zero_number, expression, factor, products, sums, end}
 use Rattle.parser.specs.declared.reader.Reader.{Reader}
 use Rattle.parser.specs.declared.refusal.Refusal.{Refusal}
@@ -23,6 +23,9 @@ use Rattle.parser.specs.Reads.{left, ahead, token_at, Reads, Spells}
 
 abbrev pub Fewer : {X : Type 0} → Reader → Result X Refusal → Reader → Type 0
 Fewer before r after = OnOk r (length (left after) ≤ length (left before))
+
+abbrev pub FewerIf : {X : Type 0} → Reader → Option X → Reader → Type 0
+FewerIf before r after = MatchOption r (length (left after) ≤ length (left before)) (λ _. length (left after) < length (left before))
 
 abbrev pub ReadsMark : Reader → Mark → Result ℕ Refusal → Reader → Type 0
 ReadsMark before m r after =
@@ -82,20 +85,8 @@ ReadsTerm before parens r after =
     → Reads (ahead source before) (factor parens x ∷ s) r (ahead source after) (sums parens x ∷ s)
     (λ t. Spells term_onto term_at (λ u. term_parens u ≤ parens) (ahead source before) (term_of source t) (ahead source after))
 
-abbrev pub ReadsProducts : Reader → Term → ℕ → Result Term Refusal → Reader → Type 0
-ReadsProducts before first parens r after =
-    (source : List ℕ) (x : End) (s : List Symbol)
-    → Reads (ahead source before) (products parens x ∷ s) r (ahead source after) (sums parens x ∷ s)
-    (λ t. Spells products_onto (λ ps. products_at ps (term_of source first)) (λ u. products_parens u ≤ parens) (ahead source before) (term_of source t) (ahead source after))
-
 abbrev pub ReadsExpression : Reader → ℕ → Result Expression Refusal → Reader → Type 0
 ReadsExpression before parens r after =
     (source : List ℕ) (x : End) (s : List Symbol)
     → Reads (ahead source before) (expression parens x ∷ s) r (ahead source after) (end x ∷ s)
     (λ e. Spells expression_onto expression_at (λ u. expression_parens u ≤ parens) (ahead source before) (expression_of source e) (ahead source after))
-
-abbrev pub ReadsSums : Reader → Expression → ℕ → Result Expression Refusal → Reader → Type 0
-ReadsSums before first parens r after =
-    (source : List ℕ) (x : End) (s : List Symbol)
-    → Reads (ahead source before) (sums parens x ∷ s) r (ahead source after) (end x ∷ s)
-    (λ e. Spells sums_onto (λ ss. sums_at ss (expression_of source first)) (λ u. sums_parens u ≤ parens) (ahead source before) (expression_of source e) (ahead source after))

@@ -3,6 +3,8 @@
 --   token_at      a token of this kind at this place
 --   starts        whether the first token has such a kind
 --   Peeks         a token that is read only if it comes next
+--   Picks         a token that is read if it is one of some form, and is left there else (Unread)
+--   Needs         a token that must be of some form, and is refused else (Unfit)
 --   Refuses       the automaton's verdict, as a refusal
 --   Reads         tokens are read as what was expected, or refused as the automaton refuses them
 --   Spells        tokens are those of a parse tree that fits, with this syntax tree, and then these are left
@@ -48,6 +50,23 @@ starts f (t ∷ ts) = f t.kind
 
 abbrev pub Peeks : {X : Type 0} → (Kind → Bool) → (X → Token) → List Token → Option X → List Token → Type 0
 Peeks f token us r vs = MatchOption r ((vs ≡ us) × (starts f us ≡ false)) (λ x. us ≡ token x ∷ vs)
+
+-- the first of these tokens, if there is one, is not read
+abbrev pub Unread : {X : Type 0} → (coded.Token → Option X → Type 0) → List coded.Token → Type 0
+Unread read [] = Unit {0}
+Unread read (t ∷ ts) = read t None
+
+-- read t r: the token t is read as r, if at all
+abbrev pub Picks : {X : Type 0} → (coded.Token → Option X → Type 0) → List coded.Token → Option X → List coded.Token → Type 0
+Picks read us r vs = MatchOption r ((vs ≡ us) × Unread read us) (λ x. (t : coded.Token) × (us ≡ t ∷ vs) × read t (Some x))
+
+-- the refusal of the first token, or of their end
+abbrev pub Unfit : {X : Type 0} → (coded.Token → Option X → Type 0) → List coded.Token → Refusal → Type 0
+Unfit read [] e = e ≡ TooSoon
+Unfit read (t ∷ ts) e = (e ≡ Grammar t.place) × read t None
+
+abbrev pub Needs : {X : Type 0} → (coded.Token → Option X → Type 0) → List coded.Token → Result X Refusal → List coded.Token → Type 0
+Needs read us r vs = MatchResult r (λ x. (t : coded.Token) × (us ≡ t ∷ vs) × read t (Some x)) (Unfit read us)
 
 abbrev pub Refuses : Verdict → Refusal → Type 0
 Refuses v TooSoon = v ≡ short

@@ -8,11 +8,11 @@
 --                     one of each kind behind its first token
 --   TakesStatements   statements up to the token behind them
 use Rattle.std.specs.Prelude.{◌≡◌, ℕ, ◌<◌, List, [], ◌∷◌, length, Result, OnOk}
-use Rattle.grammar.specs.Kinds.{Token, Mark, Return, LeftParen, RightParen, RightBrace, Comma, Semicolon, Ampersand, Assign, Format, mark}
+use Rattle.grammar.specs.Kinds.{Token, Mark, Return, RightParen, RightBrace, Semicolon, Assign}
 use Rattle.grammar.specs.Automaton.{at_semicolon, Frame, braces, whole, level, guard, Symbol, token, identifier, zero_number, expression, statement, tail}
 use Rattle.parser.specs.declared.reader.Reader.{Reader}
 use Rattle.parser.specs.declared.refusal.Refusal.{Refusal}
-use Rattle.parser.specs.Reads.{left, ahead, token_at, Reads}
+use Rattle.parser.specs.Reads.{left, ahead, Reads}
 use Rattle.parser.specs.Readers.{tokens}
 
 abbrev pub Less : {X : Type 0} → Reader → Result X Refusal → Reader → Type 0
@@ -36,17 +36,11 @@ TakesCondition before r after = (source : List ℕ) (s : List Symbol) → Takes 
 abbrev pub TakesAssignment : {X : Type 0} → Reader → Result X Refusal → Reader → Type 0
 TakesAssignment before r after = (source : List ℕ) (s : List Symbol) → Takes (ahead source before) (token Assign ∷ (expression 32 at_semicolon ∷ s)) r (ahead source after) s
 
-abbrev pub TakesScan : {X : Type 0} → Reader → Result X Refusal → Reader → Type 0
-TakesScan before r after = (source : List ℕ) (s : List Symbol) → Takes (ahead source before) (tokens (LeftParen ∷ (Format ∷ (Comma ∷ (Ampersand ∷ [])))) (identifier ∷ tokens (RightParen ∷ (Semicolon ∷ [])) s)) r (ahead source after) s
-
-abbrev pub TakesPrint : {X : Type 0} → Reader → Result X Refusal → Reader → Type 0
-TakesPrint before r after = (source : List ℕ) (s : List Symbol) → Takes (ahead source before) (tokens (LeftParen ∷ (Format ∷ (Comma ∷ []))) (identifier ∷ tokens (RightParen ∷ (Semicolon ∷ [])) s)) r (ahead source after) s
+abbrev pub TakesCall : {X : Type 0} → Reader → List Mark → Result X Refusal → Reader → Type 0
+TakesCall before opening r after = (source : List ℕ) (s : List Symbol) → Takes (ahead source before) (tokens opening (identifier ∷ tokens (RightParen ∷ (Semicolon ∷ [])) s)) r (ahead source after) s
 
 abbrev pub TakesStatement : {X : Type 0} → Reader → ℕ → Result X Refusal → Reader → Type 0
 TakesStatement before depth r after = (source : List ℕ) (es : List ℕ) (x : Frame) (s : List Symbol) → Takes (ahead source before) (statement 32 depth es x ∷ s) r (ahead source after) (tail 32 es x ∷ s)
-
-abbrev pub TakesKeyword : {X : Type 0} → Reader → Mark → ℕ → ℕ → Result X Refusal → Reader → Type 0
-TakesKeyword before m place depth r after = (source : List ℕ) (es : List ℕ) (x : Frame) (s : List Symbol) → Takes (token_at (mark m) place ∷ ahead source before) (statement 32 depth es x ∷ s) r (ahead source after) (tail 32 es x ∷ s)
 
 abbrev pub TakesIf : {X : Type 0} → Reader → ℕ → Result X Refusal → Reader → Type 0
 TakesIf before depth r after = (source : List ℕ) (es : List ℕ) (x : Frame) (s : List Symbol) → Takes (ahead source before) (guard 32 (statement 32 depth (depth ∷ es) x ∷ s)) r (ahead source after) (tail 32 es x ∷ s)

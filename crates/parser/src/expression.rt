@@ -2,7 +2,7 @@
 ghost use Rattle.std.specs.Prelude.{◌≡◌, ℕ, List};
 ghost use Rattle.syntax.specs.TreeOf.{term_of, expression_of};
 ghost use Rattle.parser.specs.Reads.{signed_by};
-ghost use Rattle.parser.specs.Readers.{Fewer, ReadsFactor, ReadsParenthesized, ReadsTerm, ReadsProducts, ReadsExpression, ReadsSums};
+ghost use Rattle.parser.specs.Readers.{Fewer, ReadsFactor, ReadsParenthesized, ReadsTerm, ReadsExpression};
 
 use crate::reader::{Reader, deeper};
 use crate::refusal::Refusal;
@@ -10,36 +10,25 @@ use syntax::token::{Additive, Kind, Mark};
 use syntax::tree::{Expression, Factor, Name, Term};
 
 impl Reader<'_> {
+    // `term` has a loop like this one: one for both would take closures for operator, operand and node, and be longer.
     #[cycle(expression_readers)]
     pub fn expression(&mut self, parens: u32) -> Result<Expression, Refusal>
         ensures reads { ReadsExpression self.old parens result self.new }
         ensures fewer { Fewer self.old result self.new }
     {
         let sign = self.additive();
-        let first = self.term(parens)?;
-        self.sums(signed(sign, first), parens)
-    }
-
-    // The terms behind a first one.
-    #[cycle(expression_readers)]
-    fn sums(&mut self, left: Expression, parens: u32) -> Result<Expression, Refusal>
-        ensures reads { ReadsSums self.old left parens result self.new }
-        ensures fewer { Fewer self.old result self.new }
-    {
-        let Some((operator, place)) = self.additive() else {
-            return Ok(left);
-        };
-        let right = self.term(parens)?;
-        let left = Box::new(self.heap, left)?;
-        self.sums(
-            Expression::Sum {
+        let mut sum = signed(sign, self.term(parens)?);
+        while let Some((operator, place)) = self.additive() {
+            let right = self.term(parens)?;
+            let left = Box::new(self.heap, sum)?;
+            sum = Expression::Sum {
                 left,
                 operator,
                 place,
                 right,
-            },
-            parens,
-        )
+            };
+        }
+        Ok(sum)
     }
 
     #[cycle(expression_readers)]
@@ -47,30 +36,18 @@ impl Reader<'_> {
         ensures reads { ReadsTerm self.old parens result self.new }
         ensures fewer { Fewer self.old result self.new }
     {
-        let first = self.factor(parens)?;
-        self.products(Term::One(first), parens)
-    }
-
-    // The factors behind a first one.
-    #[cycle(expression_readers)]
-    fn products(&mut self, left: Term, parens: u32) -> Result<Term, Refusal>
-        ensures reads { ReadsProducts self.old left parens result self.new }
-        ensures fewer { Fewer self.old result self.new }
-    {
-        let Some((operator, place)) = self.multiplicative() else {
-            return Ok(left);
-        };
-        let right = self.factor(parens)?;
-        let left = Box::new(self.heap, left)?;
-        self.products(
-            Term::Product {
+        let mut product = Term::One(self.factor(parens)?);
+        while let Some((operator, place)) = self.multiplicative() {
+            let right = self.factor(parens)?;
+            let left = Box::new(self.heap, product)?;
+            product = Term::Product {
                 left,
                 operator,
                 place,
                 right,
-            },
-            parens,
-        )
+            };
+        }
+        Ok(product)
     }
 
     #[cycle(expression_readers)]
@@ -78,9 +55,7 @@ impl Reader<'_> {
         ensures reads { ReadsFactor self.old parens result self.new }
         ensures fewer { Fewer self.old result self.new }
     {
-        let Some(token) = self.next() else {
-            return Err(Refusal::TooSoon);
-        };
+        let token = self.next()?;
         match token.kind {
             Kind::Name => Ok(Factor::Variable(Name {
                 place: token.place,
@@ -90,13 +65,7 @@ impl Reader<'_> {
                 value,
                 place: token.place,
             }),
-            Kind::Mark(mark) => match mark {
-                Mark::LeftParen => {
-                    let parens = deeper(parens, token.place)?;
-                    self.parenthesized(parens)
-                }
-                _ => Err(Refusal::Grammar(token.place)),
-            },
+            Kind::Mark(Mark::LeftParen) => self.parenthesized(deeper(parens, token.place)?),
             _ => Err(Refusal::Grammar(token.place)),
         }
     }

@@ -19,7 +19,7 @@ pub fn check(heap: Global, tokens: &[Token]) -> Result<(), Refusal>
 {
     let mut reader = Reader { rest: tokens, heap };
     reader.program()?;
-    match reader.next() {
+    match reader.rest.first() {
         None => Ok(()),
         Some(token) => Err(Refusal::Grammar(token.place)),
     }

@@ -15,9 +15,8 @@ impl Reader<'_> {
         ensures takes { TakesNames self.old result self.new }
         ensures fewer { Fewer self.old result self.new }
     {
-        if let Some(_) = self.accept(Mark::Comma) {
+        while self.accept(Mark::Comma).is_some() {
             self.name()?;
-            return self.names();
         }
         self.expect(Mark::Semicolon)?;
         Ok(())
@@ -27,11 +26,11 @@ impl Reader<'_> {
         ensures takes { TakesDeclaration self.old result self.new }
         ensures fewer { Fewer self.old result self.new }
     {
-        let Some(_) = self.accept(Mark::Int) else {
-            return Ok(());
-        };
-        self.name()?;
-        self.names()
+        if self.accept(Mark::Int).is_some() {
+            self.name()?;
+            self.names()?;
+        }
+        Ok(())
     }
 
     pub fn program(&mut self) -> Result<(), Refusal>

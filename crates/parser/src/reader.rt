@@ -1,10 +1,9 @@
 // Readers of single tokens.
-ghost use Rattle.std.specs.Prelude.{◌≡◌, ℕ, suc, ◌<◌, ◌≤◌, List, [], ◌∷◌, length, MatchOption, MatchResult};
-ghost use Rattle.syntax.specs.Tokens.{kind_of};
+ghost use Rattle.std.specs.Prelude.{◌≡◌, ℕ, suc, List, [], ◌∷◌, MatchResult};
 ghost use Rattle.grammar.specs.Kinds as grammar;
 ghost use Rattle.grammar.specs.Kinds.{same};
-ghost use Rattle.parser.specs.Reads.{left, ahead, token_at, is_additive, is_multiplicative, Peeks};
-ghost use Rattle.parser.specs.Readers.{Fewer, ReadsMark, ReadsMarks, ReadsName, ReadsRelation, ReadsZero};
+ghost use Rattle.parser.specs.Reads.{left, ahead, token_at, is_additive, is_multiplicative, Peeks, Picks, Needs};
+ghost use Rattle.parser.specs.Readers.{Fewer, FewerIf, ReadsMark, ReadsMarks, ReadsName, ReadsRelation, ReadsZero};
 
 use crate::refusal::Refusal;
 use std::alloc::Global;
@@ -18,133 +17,106 @@ pub struct Reader<'a> {
 }
 
 impl Reader<'_> {
-    pub fn next(&mut self) -> Option<Token>
-        ensures read { MatchOption result (left self.old ≡ []) (λ t. left self.old ≡ t ∷ left self.new) }
+    pub fn next(&mut self) -> Result<Token, Refusal>
+        ensures read { MatchResult result (λ t. left self.old ≡ t ∷ left self.new) (λ e. (left self.old ≡ []) × (e ≡ Refusal.TooSoon)) }
     {
-        let [first, rest @ ..] = self.rest else {
-            return None;
-        };
+        self.rest.split_off_first().copied().ok_or(Refusal::TooSoon)
+    }
+
+    // Reads the next token as what `form` makes of it, if anything.
+    fn pick<T, F: FnOnce(Token) -> Option<T>>(&mut self, form: F) -> Option<T>
+        requires { F.IsAlwaysCallable form }
+        ensures picked { Picks (F.post form) (left self.old) result (left self.new) }
+    {
+        let (first, rest) = self.rest.split_first()?;
+        let read = form(*first)?;
         self.rest = rest;
-        Some(*first)
+        Some(read)
+    }
+
+    // Reads the next token, which must be what `form` makes something of.
+    fn need<T, F: FnOnce(Token) -> Option<T>>(&mut self, form: F) -> Result<T, Refusal>
+        requires { F.IsAlwaysCallable form }
+        ensures needed { Needs (F.post form) (left self.old) result (left self.new) }
+    {
+        let token = self.next()?;
+        form(token).ok_or(Refusal::Grammar(token.place))
     }
 
     // Reads this token if it comes next, and gives its place.
     pub fn accept(&mut self, mark: Mark) -> Option<u32>
         ensures read { (source : List ℕ) → Peeks (same (grammar.mark mark)) (token_at (grammar.mark mark)) (ahead source self.old) result (ahead source self.new) }
-        ensures fewer { length (left self.new) ≤ length (left self.old) }
+        ensures fewer { FewerIf self.old result self.new }
     {
-        let [first, rest @ ..] = self.rest else {
-            return None;
-        };
-        if !is(first.kind, mark) {
-            return None;
-        }
-        self.rest = rest;
-        Some(first.place)
+        self.pick(|token| (token.kind == Kind::Mark(mark)).then_some(token.place))
     }
 
     // Reads an operator of this kind if it comes next.
     pub fn additive(&mut self) -> Option<(Additive, u32)>
         ensures read { (source : List ℕ) → Peeks is_additive (λ x. token_at (grammar.additive x.0) x.1) (ahead source self.old) result (ahead source self.new) }
-        ensures fewer { MatchOption result (length (left self.new) ≤ length (left self.old)) (λ _. length (left self.new) < length (left self.old)) }
+        ensures fewer { FewerIf self.old result self.new }
     {
-        let [first, rest @ ..] = self.rest else {
-            return None;
-        };
-        let Kind::Additive(operator) = first.kind else {
-            return None;
-        };
-        self.rest = rest;
-        Some((operator, first.place))
+        self.pick(|token| match token.kind {
+            Kind::Additive(operator) => Some((operator, token.place)),
+            _ => None,
+        })
     }
 
     pub fn multiplicative(&mut self) -> Option<(Multiplicative, u32)>
         ensures read { (source : List ℕ) → Peeks is_multiplicative (λ x. token_at (grammar.multiplicative x.0) x.1) (ahead source self.old) result (ahead source self.new) }
-        ensures fewer { MatchOption result (length (left self.new) ≤ length (left self.old)) (λ _. length (left self.new) < length (left self.old)) }
+        ensures fewer { FewerIf self.old result self.new }
     {
-        let [first, rest @ ..] = self.rest else {
-            return None;
-        };
-        let Kind::Multiplicative(operator) = first.kind else {
-            return None;
-        };
-        self.rest = rest;
-        Some((operator, first.place))
+        self.pick(|token| match token.kind {
+            Kind::Multiplicative(operator) => Some((operator, token.place)),
+            _ => None,
+        })
     }
 
     pub fn expect(&mut self, mark: Mark) -> Result<u32, Refusal>
         ensures reads { ReadsMark self.old mark result self.new }
         ensures fewer { Fewer self.old result self.new }
     {
-        let Some(token) = self.next() else {
-            return Err(Refusal::TooSoon);
-        };
-        if !is(token.kind, mark) {
-            return Err(Refusal::Grammar(token.place));
-        }
-        Ok(token.place)
+        self.need(|token| (token.kind == Kind::Mark(mark)).then_some(token.place))
     }
 
     pub fn expect_all(&mut self, marks: &[Mark]) -> Result<(), Refusal>
         ensures reads { ReadsMarks self.old marks.now result self.new }
         ensures fewer { Fewer self.old result self.new }
     {
-        let [first, rest @ ..] = marks else {
-            return Ok(());
-        };
-        self.expect(*first)?;
-        self.expect_all(rest)
+        for mark in marks {
+            self.expect(*mark)?;
+        }
+        Ok(())
     }
 
     pub fn relation(&mut self) -> Result<(Relation, u32), Refusal>
         ensures reads { ReadsRelation self.old result self.new }
         ensures fewer { Fewer self.old result self.new }
     {
-        let Some(token) = self.next() else {
-            return Err(Refusal::TooSoon);
-        };
-        match token.kind {
-            Kind::Relation(relation) => Ok((relation, token.place)),
-            _ => Err(Refusal::Grammar(token.place)),
-        }
+        self.need(|token| match token.kind {
+            Kind::Relation(relation) => Some((relation, token.place)),
+            _ => None,
+        })
     }
 
     pub fn name(&mut self) -> Result<Name, Refusal>
         ensures reads { ReadsName self.old result self.new }
         ensures fewer { Fewer self.old result self.new }
     {
-        let Some(token) = self.next() else {
-            return Err(Refusal::TooSoon);
-        };
-        match token.kind {
-            Kind::Name => Ok(Name {
+        self.need(|token| match token.kind {
+            Kind::Name => Some(Name {
                 place: token.place,
                 length: token.length,
             }),
-            _ => Err(Refusal::Grammar(token.place)),
-        }
+            _ => None,
+        })
     }
 
     pub fn zero(&mut self) -> Result<u32, Refusal>
         ensures reads { ReadsZero self.old result self.new }
         ensures fewer { Fewer self.old result self.new }
     {
-        let Some(token) = self.next() else {
-            return Err(Refusal::TooSoon);
-        };
-        match token.kind {
-            Kind::Number(0) => Ok(token.place),
-            _ => Err(Refusal::Grammar(token.place)),
-        }
-    }
-}
-
-fn is(kind: Kind, mark: Mark) -> bool
-    ensures { (bytes : List ℕ) → result ≡ same (grammar.mark mark) (kind_of kind bytes) }
-{
-    match kind {
-        Kind::Mark(other) => mark as u8 == other as u8,
-        _ => false,
+        self.need(|token| (token.kind == Kind::Number(0)).then_some(token.place))
     }
 }
 
@@ -152,8 +124,5 @@ fn is(kind: Kind, mark: Mark) -> bool
 pub fn deeper(spare: u32, place: u32) -> Result<u32, Refusal>
     ensures { MatchResult result (λ less. spare ≡ suc less) (λ e. (spare ≡ 0) × (e ≡ Refusal.Depth place)) }
 {
-    if spare == 0 {
-        return Err(Refusal::Depth(place));
-    }
-    Ok(spare - 1)
+    spare.checked_sub(1).ok_or(Refusal::Depth(place))
 }

@@ -1,14 +1,18 @@
+// Why tokens make no program.
 ghost use Rattle.std.specs.Prelude.{◌≡◌};
 ghost use Rattle.parser.specs.declared.refusal.Refusal.TheVariants.{NoMemory};
-// Why tokens make no program.
+
 use std::alloc::AllocFailed;
 
-// The tokens end too soon; they break the grammar, or a depth, at the token with this place; there is no memory for the tree.
-#[derive(Drop)]
+#[derive(Clone, Copy, PartialEq, Eq, Debug)]
 pub enum Refusal {
+    // the tokens end too soon
     TooSoon,
+    // the token at this place breaks the grammar
     Grammar(u32),
+    // the token at this place goes deeper than its depth allows
     Depth(u32),
+    // there is no memory for the tree
     NoMemory,
 }
 

@@ -1,7 +1,7 @@
 // Readers of statements.
 ghost use Rattle.std.specs.Prelude.{◌≡◌, ℕ, List, [], ◌∷◌};
 ghost use Rattle.parser.specs.Readers.{Fewer};
-ghost use Rattle.parser.specs.Statements.{Less, TakesCondition, TakesAssignment, TakesScan, TakesPrint, TakesStatement, TakesKeyword, TakesIf, TakesWhile, TakesBlock, TakesStatements};
+ghost use Rattle.parser.specs.Statements.{Less, TakesCondition, TakesAssignment, TakesCall, TakesStatement, TakesIf, TakesWhile, TakesBlock, TakesStatements};
 
 use crate::reader::{Reader, deeper};
 use crate::refusal::Refusal;
@@ -16,9 +16,9 @@ impl Reader<'_> {
         ensures fewer { Fewer self.old result self.new }
     {
         self.expect(Mark::LeftParen)?;
-        let _ = self.expression(PARENTHESES)?;
+        self.expression(PARENTHESES)?;
         self.relation()?;
-        let _ = self.expression(PARENTHESES)?;
+        self.expression(PARENTHESES)?;
         self.expect(Mark::RightParen)?;
         Ok(())
     }
@@ -29,27 +29,17 @@ impl Reader<'_> {
         ensures fewer { Fewer self.old result self.new }
     {
         self.expect(Mark::Assign)?;
-        let _ = self.expression(PARENTHESES)?;
+        self.expression(PARENTHESES)?;
         self.expect(Mark::Semicolon)?;
         Ok(())
     }
 
-    // `scanf` behind its word.
-    fn scan(&mut self) -> Result<(), Refusal>
-        ensures takes { TakesScan self.old result self.new }
+    // A call of `scanf` or `printf` behind its word; these tokens stand before its name.
+    fn call(&mut self, opening: &[Mark]) -> Result<(), Refusal>
+        ensures takes { TakesCall self.old opening.now result self.new }
         ensures fewer { Fewer self.old result self.new }
     {
-        self.expect_all(&[Mark::LeftParen, Mark::Format, Mark::Comma, Mark::Ampersand])?;
-        self.name()?;
-        self.expect_all(&[Mark::RightParen, Mark::Semicolon])
-    }
-
-    // `printf` behind its word.
-    fn print(&mut self) -> Result<(), Refusal>
-        ensures takes { TakesPrint self.old result self.new }
-        ensures fewer { Fewer self.old result self.new }
-    {
-        self.expect_all(&[Mark::LeftParen, Mark::Format, Mark::Comma])?;
+        self.expect_all(opening)?;
         self.name()?;
         self.expect_all(&[Mark::RightParen, Mark::Semicolon])
     }
@@ -60,38 +50,21 @@ impl Reader<'_> {
         ensures takes { TakesStatement self.old depth result self.new }
         ensures less { Less self.old result self.new }
     {
-        let Some(token) = self.next() else {
-            return Err(Refusal::TooSoon);
-        };
+        let token = self.next()?;
+        let inner = deeper(depth, token.place);
         match token.kind {
             Kind::Name => self.assignment(),
-            Kind::Mark(mark) => self.keyword(mark, token.place, depth),
+            Kind::Mark(Mark::Scanf) => self.call(&[
+                Mark::LeftParen,
+                Mark::Format,
+                Mark::Comma,
+                Mark::Ampersand,
+            ]),
+            Kind::Mark(Mark::Printf) => self.call(&[Mark::LeftParen, Mark::Format, Mark::Comma]),
+            Kind::Mark(Mark::If) => self.if_statement(inner?),
+            Kind::Mark(Mark::While) => self.while_statement(inner?),
+            Kind::Mark(Mark::LeftBrace) => self.block(inner?),
             _ => Err(Refusal::Grammar(token.place)),
-        }
-    }
-
-    // A statement behind its first token, which is no name.
-    #[cycle(statement_readers)]
-    fn keyword(&mut self, mark: Mark, place: u32, depth: u32) -> Result<(), Refusal>
-        ensures takes { TakesKeyword self.old mark place depth result self.new }
-        ensures fewer { Fewer self.old result self.new }
-    {
-        match mark {
-            Mark::Scanf => self.scan(),
-            Mark::Printf => self.print(),
-            Mark::If => {
-                let depth = deeper(depth, place)?;
-                self.if_statement(depth)
-            }
-            Mark::While => {
-                let depth = deeper(depth, place)?;
-                self.while_statement(depth)
-            }
-            Mark::LeftBrace => {
-                let depth = deeper(depth, place)?;
-                self.block(depth)
-            }
-            _ => Err(Refusal::Grammar(place)),
         }
     }
 
@@ -103,10 +76,10 @@ impl Reader<'_> {
     {
         self.condition()?;
         self.statement(depth)?;
-        let Some(_) = self.accept(Mark::Else) else {
-            return Ok(());
-        };
-        self.statement(depth)
+        if self.accept(Mark::Else).is_some() {
+            self.statement(depth)?;
+        }
+        Ok(())
     }
 
     #[cycle(statement_readers)]
@@ -134,10 +107,9 @@ impl Reader<'_> {
         ensures takes { TakesStatements self.old end depth result self.new }
         ensures fewer { Fewer self.old result self.new }
     {
-        if let Some(_) = self.accept(end) {
-            return Ok(());
+        while self.accept(end).is_none() {
+            self.statement(depth)?;
         }
-        self.statement(depth)?;
-        self.statements(end, depth)
+        Ok(())
     }
 }

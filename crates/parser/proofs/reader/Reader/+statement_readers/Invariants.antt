@@ -1,5 +1,7 @@
-use Rattle.std.proofs.Common.{◌+◌, ◌*◌, length}
-use Rattle.parser.specs.Reads.{left}
+use Rattle.std.proofs.Common.{◌≡◌, ℕ, ◌+◌, ◌*◌, ◌≤◌, List, [], ◌∷◌, length}
+use Rattle.grammar.specs.Automaton.{Frame, level, Symbol, tail, judge}
+use Rattle.parser.specs.Reads.{left, ahead}
+use Rattle.parser.specs.Statements.{end_of}
 use Rattle.parser.proofs.reader.Reader.+statement_readers.Given as goal
 
 abbrev pub decreases-block : goal.decreases-block
@@ -7,9 +9,6 @@ decreases-block l = 4 * length (left l.self.now) + 2
 
 abbrev pub decreases-if_statement : goal.decreases-if_statement
 decreases-if_statement l = 4 * length (left l.self.now) + 2
-
-abbrev pub decreases-keyword : goal.decreases-keyword
-decreases-keyword l = 4 * length (left l.self.now) + 3
 
 abbrev pub decreases-statement : goal.decreases-statement
 decreases-statement l = 4 * length (left l.self.now)
@@ -19,3 +18,11 @@ decreases-statements l = 4 * length (left l.self.now) + 1
 
 abbrev pub decreases-while_statement : goal.decreases-while_statement
 decreases-while_statement l = 4 * length (left l.self.now) + 2
+
+abbrev pub decreases-statements-loop-end : goal.decreases-statements-loop-end
+decreases-statements-loop-end l = length (left l.self)
+
+abbrev pub invariant-statements-loop-end : goal.invariant-statements-loop-end
+invariant-statements-loop-end l =
+    ((source : List ℕ) (x : Frame) (s : List Symbol) → end_of x ≡ l.end → level x ≡ l.depth → judge (ahead source l.fn.self) (tail 32 [] x ∷ s) ≡ judge (ahead source l.self) (tail 32 [] x ∷ s))
+    × (length (left l.self) ≤ length (left l.fn.self))

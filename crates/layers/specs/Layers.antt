@@ -3,7 +3,7 @@
 --   holder_means  a holder that keeps some words, over a tape of some meaning
 --   Sent          a list of accepted puts
 --   Moved         words went down from a layer
-use Rattle.std.specs.Prelude.{◌≡◌, ℕ, ◌+◌, ◌-◌, min, cond, List, ◌++◌, length, take, ℤ, nat_le}
+use Rattle.std.specs.Prelude.{◌≡◌, ℕ, ◌+◌, ◌-◌, min, cond, List, ◌++◌, length, ℤ, nat_le}
 use Rattle.std.proofs.Common.{length-append, arith}
 use Rattle.tapes.specs.declared.output.Reason.TheVariants.{Quota}
 use Rattle.tapes.specs.Meaning.{Meaning, pinch_of, deeper, AtRest, KeptAtRest}
@@ -16,12 +16,12 @@ quota_means left m = record {
   pinch = cond (nat_le left m.room) (pinch_of 0 Quota) (deeper m.pinch);
 }
 
--- it keeps the first `count` of `held`; of these those are written that fit below
-abbrev pub holder_means : List ℤ → ℕ → Meaning → Meaning
-holder_means held count m = record {
-  written = m.written ++ take (min count m.room) held;
+-- the held words count as written; for each there is room below
+abbrev pub holder_means : List ℤ → Meaning → Meaning
+holder_means held m = record {
+  written = m.written ++ held;
   rest = m.rest;
-  room = m.room - count;
+  room = m.room - length held;
   pinch = deeper m.pinch;
 }
 
@@ -38,5 +38,5 @@ pub record Moved (m n : Meaning) : Type 0 where
   pub pinch : n.pinch ≡ m.pinch
   pub rests : KeptAtRest m n
 
-pub held_bounded : (held : List ℤ) (count : ℕ) (m : Meaning) → AtRest m → AtRest (holder_means held count m)
-held_bounded held count m h = simp length-append (omega arith)
+pub held_bounded : (held : List ℤ) (m : Meaning) → AtRest m → AtRest (holder_means held m)
+held_bounded held m h = simp length-append (omega arith)

@@ -1,81 +1,70 @@
 // The holder: keeps up to 16 words, and passes them down on settling and before it keeps a 17th.
 ghost use Rattle.std.specs.Prelude.{◌≡◌, ◌≤◌, []};
-ghost use Rattle.tapes.specs.Meaning.{Put};
+ghost use Rattle.arrayvec.specs.ArrayVec.{array_vec_len};
 ghost use Rattle.layers.specs.Layers.{holder_means, held_bounded, Moved};
 
 use crate::send::send;
+use arrayvec::ArrayVec;
 use tapes::output::{OutputTape, Pinch};
 
 #[derive(Drop)]
 pub struct Holder<O: OutputTape> {
     below: O,
-    held: [i32; 16],
-    count: usize,
-    ghost few: { count ≤ 16 },
+    held: ArrayVec<i32, 16>,
+    ghost fit: { array_vec_len held ≤ (O.OutputTape.means below).room },
 }
 
 impl<O: OutputTape> Holder<O> {
     // A holder that keeps nothing yet.
     pub fn new(below: O) -> Holder<O>
-        ensures { (result.below ≡ below) × (result.count ≡ 0) }
+        ensures { (result.below ≡ below) × (result.held.items ≡ []) }
     {
         Holder {
             below,
-            held: [0; 16],
-            count: 0,
+            held: ArrayVec::new(),
         }
     }
 
     // The tape below, with all that was written passed down to it.
     pub fn into_below(mut self) -> O
-        ensures { Moved (holder_means self.held self.count (O.OutputTape.means self.below)) (holder_means [] 0 (O.OutputTape.means result)) }
+        ensures { Moved (holder_means self.held.items (O.OutputTape.means self.below)) (holder_means [] (O.OutputTape.means result)) }
     {
         self.pass_down();
-        let Holder {
-            below,
-            held: _,
-            count: _,
-        } = self;
+        let Holder { below, held: _ } = self;
         below
     }
 
-    // Passes down the held words, as far as they fit below.
+    // Passes down the held words.
     fn pass_down(&mut self)
-        ensures empty { self.new.count ≡ 0 }
-        ensures moved { Moved (holder_means self.old.held self.old.count (O.OutputTape.means self.old.below)) (holder_means self.new.held self.new.count (O.OutputTape.means self.new.below)) }
+        ensures empty { self.new.held.items ≡ [] }
+        ensures moved { Moved (holder_means self.old.held.items (O.OutputTape.means self.old.below)) (holder_means [] (O.OutputTape.means self.new.below)) }
     {
-        let fit = self.count.min(self.below.room());
-        send(&mut self.below, &self.held[..fit]);
-        self.count = 0;
+        send(&mut self.below, &self.held);
+        self.held.clear();
     }
 }
 
 impl<O: OutputTape> OutputTape for Holder<O> {
-    ghost means = { λ t. holder_means t.held t.count (O.OutputTape.means t.below) };
+    ghost means = { λ t. holder_means t.held.items (O.OutputTape.means t.below) };
 
-    ghost bounded = { λ t. held_bounded t.held t.count (O.OutputTape.means t.below) (O.OutputTape.bounded t.below) };
+    ghost bounded = { λ t. held_bounded t.held.items (O.OutputTape.means t.below) (O.OutputTape.bounded t.below) };
 
     fn room(&self) -> usize {
-        self.below.room().saturating_sub(self.count)
+        self.below.room() - self.held.len()
     }
 
     fn pinch(&self) -> Pinch {
         self.below.pinch().deeper()
     }
 
-    // From a new holder on, all held words fit below.
-    fn put(&mut self, x: i32) -> Result<(), Pinch>
-        ensures put { Put (holder_means self.old.held self.old.count (O.OutputTape.means self.old.below)) x result (holder_means self.new.held self.new.count (O.OutputTape.means self.new.below)) }
-        ensures fit { self.old.count ≤ (O.OutputTape.means self.old.below).room → self.new.count ≤ (O.OutputTape.means self.new.below).room }
-    {
-        if self.below.room() <= self.count {
+    fn put(&mut self, x: i32) -> Result<(), Pinch> {
+        if self.room() == 0 {
             return Err(self.pinch());
         }
-        if self.count == 16 {
+        if self.held.is_full() {
             self.pass_down();
         }
-        self.held[self.count] = x;
-        self.count += 1;
+        self.held.push(x);
         Ok(())
     }
 
@@ -111,7 +100,7 @@ mod tests {
         room: usize,
     ) {
         assert_eq!(rt; holder.below.written().len(), passed);
-        assert_eq!(rt; holder.count, held);
+        assert_eq!(rt; holder.held.len(), held);
         assert_eq!(rt; holder.room(), room);
     }
 

@@ -39,10 +39,7 @@ impl<O: OutputTape> OutputTape for Quota<O> {
 
     fn pinch(&self) -> Pinch {
         if self.left <= self.below.room() {
-            Pinch {
-                depth: 0,
-                reason: Reason::Quota,
-            }
+            Reason::Quota.into()
         } else {
             self.below.pinch().deeper()
         }
@@ -50,18 +47,11 @@ impl<O: OutputTape> OutputTape for Quota<O> {
 
     fn put(&mut self, x: i32) -> Result<(), Pinch> {
         if self.left == 0 {
-            return Err(Pinch {
-                depth: 0,
-                reason: Reason::Quota,
-            });
+            return Err(self.pinch());
         }
-        match self.below.put(x) {
-            Ok(()) => {
-                self.left -= 1;
-                Ok(())
-            }
-            Err(pinch) => Err(pinch.deeper()),
-        }
+        self.below.put(x).map_err(Pinch::deeper)?;
+        self.left -= 1;
+        Ok(())
     }
 
     fn settle(&mut self) {
@@ -95,48 +85,18 @@ mod tests {
         Err(Fail::new("no put was refused"))
     }
 
+    // Full two layers down; the quota where both are met; the quota with room below.
     #[test]
-    fn full_two_layers_down(rt: HostRuntime) -> Result<(), Fail> {
-        assert_eq!(rt;
-            filled(&rt, rt.alloc(), 5)?,
-            (
-                3,
-                Pinch {
-                    depth: 2,
-                    reason: Reason::Full,
-                },
-            )
-        );
-        Ok(())
-    }
-
-    #[test]
-    fn quota_first_where_both_are_met(rt: HostRuntime) -> Result<(), Fail> {
-        assert_eq!(rt;
-            filled(&rt, rt.alloc(), 3)?,
-            (
-                3,
-                Pinch {
-                    depth: 0,
-                    reason: Reason::Quota,
-                },
-            )
-        );
-        Ok(())
-    }
-
-    #[test]
-    fn quota_spent_with_room_below(rt: HostRuntime) -> Result<(), Fail> {
-        assert_eq!(rt;
-            filled(&rt, rt.alloc(), 2)?,
-            (
-                2,
-                Pinch {
-                    depth: 0,
-                    reason: Reason::Quota,
-                },
-            )
-        );
+    fn the_nearest_reason_is_told(rt: HostRuntime) -> Result<(), Fail> {
+        let cases = [
+            (5, 3, 2, Reason::Full),
+            (3, 3, 0, Reason::Quota),
+            (2, 2, 0, Reason::Quota),
+        ];
+        for (allotment, accepted, depth, reason) in cases {
+            let refusal = Pinch { depth, reason };
+            assert_eq!(rt; filled(&rt, rt.alloc(), allotment)?, (accepted, refusal));
+        }
         Ok(())
     }
 }

@@ -13,18 +13,8 @@ use texts::input::TextInput;
 use texts::output::TextOutput;
 use units::strict::Strict;
 
-fn run(rt: &HostRuntime) -> anyhow::Result<()> {
-    let heap = rt.alloc();
-    let mut bytes = Vec::new(heap);
-    rt.stdin().take(12_000).read_to_end(&mut bytes)?;
-    let mut input = match TextInput::new(bytes) {
-        Ok(input) => input,
-        Err(refusal) => {
-            rt.println(Refused::from(refusal))?;
-            return Ok(());
-        }
-    };
-    let memory = vec![in heap; 0u8; 12_000]?;
+fn run(rt: &HostRuntime, mut input: TextInput) -> anyhow::Result<()> {
+    let memory = vec![in rt.alloc(); 0u8; 12_000]?;
     let mut output = Quota::new(Holder::new(TextOutput::new(memory)), 1_000);
     relay(rt, &Strict, &mut input, &mut output)?;
     let tape = output.into_below().into_below();
@@ -34,5 +24,10 @@ fn run(rt: &HostRuntime) -> anyhow::Result<()> {
 }
 
 fn main(rt: HostRuntime) -> anyhow::Result<()> {
-    run(&rt)
+    let mut bytes = Vec::new(rt.alloc());
+    rt.stdin().take(12_000).read_to_end(&mut bytes)?;
+    match TextInput::new(bytes) {
+        Ok(input) => run(&rt, input),
+        Err(refusal) => Ok(rt.println(Refused::from(refusal))?),
+    }
 }

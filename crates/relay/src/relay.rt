@@ -7,20 +7,18 @@ use tapes::input::InputTape;
 use tapes::output::{OutputTape, Pinch};
 use units::arithmetic::Arithmetic;
 
-// What became of a number that was taken.
-#[derive(Clone, Copy)]
-pub enum Delivery {
-    Put(i32),
+// Why a number that was taken is not put.
+#[derive(Clone, Copy, PartialEq, Eq, Debug)]
+pub enum Undelivered {
     OutOfRange,
     NoRoom(i32, Pinch),
 }
 
-impl fmt::Display for Delivery {
+impl fmt::Display for Undelivered {
     fn fmt<W: fmt::Write>(&self, f: &mut fmt::Formatter<W>) -> fmt::Result {
         match self {
-            Delivery::Put(x) => write!(f, "put {x}"),
-            Delivery::OutOfRange => write!(f, "out of range"),
-            Delivery::NoRoom(x, pinch) => {
+            Undelivered::OutOfRange => write!(f, "out of range"),
+            Undelivered::NoRoom(x, pinch) => {
                 let depth = pinch.depth;
                 let reason = pinch.reason.number();
                 write!(f, "no room for {x}: depth {depth}, reason {reason}")
@@ -29,16 +27,19 @@ impl fmt::Display for Delivery {
     }
 }
 
-fn deliver<U: Arithmetic, O: OutputTape>(unit: &U, output: &mut O, x: i32) -> Delivery
+// What the unit makes of a number is put.
+fn deliver<U: Arithmetic, O: OutputTape>(
+    unit: &U,
+    output: &mut O,
+    x: i32,
+) -> Result<i32, Undelivered>
     ensures { Delivered U.narrowed (O.means output.old) x result (O.means output.new) }
 {
-    let Some(v) = unit.narrow(i64::from(x)) else {
-        return Delivery::OutOfRange;
-    };
-    match output.put(v) {
-        Ok(()) => Delivery::Put(v),
-        Err(pinch) => Delivery::NoRoom(v, pinch),
-    }
+    let v = unit.narrow(i64::from(x)).ok_or(Undelivered::OutOfRange)?;
+    output
+        .put(v)
+        .map_err(|pinch| Undelivered::NoRoom(v, pinch))?;
+    Ok(v)
 }
 
 // Takes every number; each that the unit narrows and for which there is room is put; then all is settled.
@@ -54,8 +55,10 @@ pub fn relay<R: Print, U: Arithmetic, I: InputTape, O: OutputTape>(
 {
     while let Some(x) = input.take() {
         println!(rt; "took {x}")?;
-        let delivery = deliver(unit, output, x);
-        println!(rt; "{delivery}")?;
+        match deliver(unit, output, x) {
+            Ok(v) => println!(rt; "put {v}")?,
+            Err(undelivered) => println!(rt; "{undelivered}")?,
+        }
     }
     output.settle();
     Ok(())

@@ -6,8 +6,9 @@
 --   Put          a put, by its answer
 --   settled      all at rest
 --   AtRest, KeptAtRest      what is promised of the count at rest between settlings
---   words_mean   what a word tape means
-use Rattle.std.specs.Prelude.{◌≡◌, ℕ, ◌+◌, ◌-◌, ◌^◌, ◌<◌, ◌≤◌, min, List, [], ◌∷◌, ◌++◌, length, take, ℤ, Ok, Err, Result}
+--   Filling, unwritten      what is written in memory given at the start, and the room left; nothing written yet
+--   filling_means           what an output tape over such memory means
+use Rattle.std.specs.Prelude.{◌≡◌, ℕ, ◌+◌, ◌-◌, ◌^◌, ◌<◌, ◌≤◌, min, List, [], ◌∷◌, ◌++◌, length, ℤ, Ok, Err, Result}
 use Rattle.std.proofs.Common.{arith}
 use Rattle.tapes.specs.declared.output.Pinch.{Pinch}
 use Rattle.tapes.specs.declared.output.Reason.{Reason}
@@ -52,9 +53,17 @@ Put m x (Err p) n = (m.room ≡ 0) × (p ≡ m.pinch) × (n ≡ m)
 abbrev pub settled : Meaning → Meaning
 settled m = record { written = m.written; rest = length m.written; room = m.room; pinch = m.pinch }
 
--- a tape over fixed memory, of which the first `used` words are written
-abbrev pub words_mean : List ℤ → ℕ → Meaning
-words_mean ws used = record { written = take used ws; rest = length (take used ws); room = length ws - used; pinch = pinch_of 0 Full }
+-- what is written in memory given at the start, and for how many more numbers it has room
+pub record Filling : Type 0 where
+  pub written : List ℤ
+  pub room : ℕ
 
-pub words_bounded : (ws : List ℤ) (used : ℕ) → AtRest (words_mean ws used)
-words_bounded ws used = omega arith
+abbrev pub unwritten : ℕ → Filling
+unwritten room = record { written = []; room = room }
+
+-- there all that is written is at rest
+abbrev pub filling_means : Filling → Meaning
+filling_means f = record { written = f.written; rest = length f.written; room = f.room; pinch = pinch_of 0 Full }
+
+pub filling_bounded : (f : Filling) → AtRest (filling_means f)
+filling_bounded f = omega arith

@@ -6,18 +6,15 @@ ghost use Rattle.tapes.specs.declared.output.Reason.TheVariants.{Full};
 // Why there is no room.
 #[derive(Clone, Copy, PartialEq, Eq, Debug)]
 pub enum Reason {
-    Full,
-    Quota,
+    Full = 1,
+    Quota = 2,
 }
 
 impl Reason {
     pub fn number(self) -> u8
         ensures { result ≡ reason_number self }
     {
-        match self {
-            Reason::Full => 1,
-            Reason::Quota => 2,
-        }
+        self as u8
     }
 }
 
@@ -28,15 +25,21 @@ pub struct Pinch {
     pub reason: Reason,
 }
 
+// A tape's own reason.
+impl From<Reason> for Pinch {
+    ghost from_gives = { λ reason pinch. pinch ≡ pinch_of 0 reason };
+
+    fn from(reason: Reason) -> Pinch {
+        Pinch { depth: 0, reason }
+    }
+}
+
 impl Pinch {
     // The pinch of a tape over fixed memory.
     pub fn full() -> Pinch
         ensures { result ≡ pinch_of 0 Full }
     {
-        Pinch {
-            depth: 0,
-            reason: Reason::Full,
-        }
+        Reason::Full.into()
     }
 
     // The same, told by a layer above.
@@ -45,7 +48,7 @@ impl Pinch {
     {
         Pinch {
             depth: self.depth.saturating_add(1),
-            reason: self.reason,
+            ..self
         }
     }
 }

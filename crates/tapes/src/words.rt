@@ -1,71 +1,90 @@
 // Tapes over words in memory given at the start.
-ghost use Rattle.std.specs.Prelude.{◌≡◌, ◌≤◌, length, drop};
-ghost use Rattle.tapes.specs.Meaning.{words_mean, words_bounded};
+ghost use Rattle.std.specs.Prelude.{◌≡◌, length};
+ghost use Rattle.tapes.specs.Meaning.{unwritten, filling_means, filling_bounded};
 
 use crate::input::InputTape;
 use crate::output::{OutputTape, Pinch};
+use std::marker::Model;
+use std::vec::IntoIter;
 
 #[derive(Drop)]
 pub struct WordInput {
-    words: Vec<i32>,
-    next: usize,
+    words: IntoIter<i32>,
+}
+
+impl Model for WordInput {
+    ghost use Rattle.std.specs.Prelude.{List, ℤ};
+    ghost use Rattle.std.specs.Vec.Iter.{into_iter_items};
+
+    ghost Value = { List ℤ };
+
+    ghost view = { λ t. into_iter_items t.words };
 }
 
 impl WordInput {
     // A tape on which all these words wait.
     pub fn new(words: Vec<i32>) -> WordInput
-        ensures { drop result.next result.words.items ≡ words.items }
+        ensures { result ≡ words.items }
     {
-        WordInput { words, next: 0 }
+        WordInput {
+            words: words.into_iter(),
+        }
     }
 }
 
 impl InputTape for WordInput {
-    ghost waiting = { λ t. drop t.next t.words.items };
+    ghost waiting = { λ t. t };
 
     fn take(&mut self) -> Option<i32> {
-        if self.next >= self.words.len() {
-            return None;
-        }
-        let x = self.words[self.next];
-        self.next += 1;
-        Some(x)
+        self.words.next()
     }
 }
 
 #[derive(Drop)]
 pub struct WordOutput {
     words: Vec<i32>,
-    used: usize,
-    ghost within: { used ≤ length words.items },
+    left: usize,
+}
+
+impl Model for WordOutput {
+    ghost use Rattle.std.specs.Prelude.{◌+◌, ◌≤◌, vec_len, vec_capacity};
+    ghost use Rattle.tapes.specs.Meaning.{Filling};
+
+    ghost Value = { Filling };
+
+    ghost view = { λ t. record { written = t.words.items; room = t.left } };
+
+    ghost invariant = { λ t. vec_len t.words + t.left ≤ vec_capacity t.words };
 }
 
 impl WordOutput {
     // A tape with nothing written, and as much room as the memory has words.
-    pub fn new(memory: Vec<i32>) -> WordOutput
-        ensures { words_mean result.words.items result.used ≡ words_mean memory.items 0 }
+    pub fn new(mut memory: Vec<i32>) -> WordOutput
+        ensures { result ≡ unwritten (length memory.items) }
     {
+        let left = memory.len();
+        memory.clear();
         WordOutput {
             words: memory,
-            used: 0,
+            left,
         }
     }
 
     // The words written.
     pub fn written(&self) -> &[i32]
-        ensures { result.now ≡ (words_mean self.now.words.items self.now.used).written }
+        ensures { result.now ≡ self.now.written }
     {
-        &self.words[0..self.used]
+        &self.words
     }
 }
 
 impl OutputTape for WordOutput {
-    ghost means = { λ t. words_mean t.words.items t.used };
+    ghost means = { filling_means };
 
-    ghost bounded = { λ t. words_bounded t.words.items t.used };
+    ghost bounded = { filling_bounded };
 
     fn room(&self) -> usize {
-        self.words.len() - self.used
+        self.left
     }
 
     fn pinch(&self) -> Pinch {
@@ -73,11 +92,11 @@ impl OutputTape for WordOutput {
     }
 
     fn put(&mut self, x: i32) -> Result<(), Pinch> {
-        if self.used >= self.words.len() {
+        if self.left == 0 {
             return Err(Pinch::full());
         }
-        self.words[self.used] = x;
-        self.used += 1;
+        self.words.push_reserved(x);
+        self.left -= 1;
         Ok(())
     }
 

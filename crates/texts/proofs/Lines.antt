@@ -1,12 +1,17 @@
 -- Texts of lines.
-use Rattle.std.proofs.Common.{◌≡◌, ℕ, zero, suc, ◌+◌, ◌-◌, ◌*◌, ◌/◌, ◌<◌, ◌≤◌, min, true, false, List, [], ◌∷◌, ◌++◌, length, take, drop, ℤ, pos, is_some, Some, None, Option, sym, refl, ap, ◌∙◌, subst, inl, inr, append_assoc, append-nil, add-one, arith, length-append, length-drop, length-take}
-use Rattle.std.proofs.lemmas.List.{take-take, take_all, take_at, drop_at, drop-take, drop-drop, take-append-drop, length-take-le, length_push, get_or_append_left, get_or_push}
+use Rattle.std.proofs.Common.{◌≡◌, ℕ, zero, suc, ◌+◌, ◌-◌, ◌*◌, ◌/◌, ◌<◌, ◌≤◌, true, false, List, [], ◌∷◌, ◌++◌, length, take, drop, ℤ, pos, is_none, Some, None, Option, sym, refl, ap, ◌∙◌, subst, inl, inr, append_assoc, append-nil, add-one, arith, length-append, length-drop, length-take}
+use Rattle.std.specs.Prelude.{IfSome, IsSomeAnd}
+use Rattle.std.specs.Option.{option_map}
+use Rattle.std.specs.List.{IsSubsliceAt}
+use Rattle.std.specs.Slice.Iter.{chunk_count}
+use denote.Ref.{Bor}
+use Rattle.std.proofs.lemmas.List.{take-take, take_all, take_at, drop_at, drop-take, drop-drop, take-append-drop, length_push, get_or_append_left, get_or_push}
 use Rattle.std.proofs.lemmas.Bool.{cases_lt}
 use Rattle.lines.specs.Lines.{Word, line_of, number_in, Read}
 use Rattle.lines.proofs.Numbers.{number_in_line}
 use Rattle.lines.proofs.Reading.{line_long}
-use Rattle.tapes.specs.Meaning.{Appended}
-use Rattle.texts.specs.Texts.{lines_of, readings, numbers_in, Words, text_means, FirstBad}
+use Rattle.tapes.specs.Meaning.{Appended, filling_means}
+use Rattle.texts.specs.Texts.{lines_of, readings, numbers_in, Words, Lines, FirstBad}
 
 pub lines_of_append : (xs ys : List ℤ) → lines_of (xs ++ ys) ≡ lines_of xs ++ lines_of ys
 lines_of_append [] ys = refl
@@ -14,10 +19,6 @@ lines_of_append (x ∷ xs) ys = ap (λ t. line_of x ++ t) (lines_of_append xs ys
 
 pub lines_of_push : (xs : List ℤ) (x : ℤ) → lines_of (xs ++ x ∷ []) ≡ lines_of xs ++ line_of x
 lines_of_push xs x = lines_of_append xs (x ∷ []) ∙ ap (λ t. lines_of xs ++ t) (append-nil (line_of x))
-
-pub length_readings : (n : ℕ) (bs : List ℕ) → length (readings n bs) ≡ n
-length_readings zero bs = refl
-length_readings (suc n) bs = ap suc (length_readings n (drop 12 bs))
 
 -- one line more
 pub readings_suc : (n : ℕ) (bs : List ℕ) → readings (suc n) bs ≡ readings n bs ++ number_in (take 12 (drop (12 * n) bs)) ∷ []
@@ -28,16 +29,6 @@ readings_suc (suc n) bs =
 
 pub readings_more : (n : ℕ) (bs : List ℕ) → readings (n + 1) bs ≡ readings n bs ++ number_in (take 12 (drop (12 * n) bs)) ∷ []
 readings_more n bs = ap (λ k. readings k bs) (add-one n) ∙ readings_suc n bs
-
--- the first n lines alone matter
-pub readings_front : (n : ℕ) (bs cs : List ℕ) → take (12 * n) bs ≡ take (12 * n) cs → readings n bs ≡ readings n cs
-readings_front zero bs cs e = refl
-readings_front (suc n) bs cs e =
-    let s : 12 + 12 * n ≡ 12 * suc n = omega arith in
-    let le : 12 ≤ 12 * suc n = omega arith in
-    let h : take 12 bs ≡ take 12 cs = sym (take-take 12 (12 * suc n) bs le) ∙ ap (take 12) e ∙ take-take 12 (12 * suc n) cs le in
-    let t : take (12 * n) (drop 12 bs) ≡ take (12 * n) (drop 12 cs) = sym (drop-take 12 (12 * n) bs) ∙ ap (λ k. drop 12 (take k bs)) s ∙ ap (drop 12) e ∙ sym (ap (λ k. drop 12 (take k cs)) s) ∙ drop-take 12 (12 * n) cs in
-    ap (λ x. number_in x ∷ readings n (drop 12 bs)) h ∙ ap (λ x. number_in (take 12 cs) ∷ x) (readings_front n (drop 12 bs) (drop 12 cs) t)
 
 -- lists of 32-bit numbers
 pub words_push : (xs : List ℤ) (x : ℤ) → Words xs → Word x → Words (xs ++ x ∷ [])
@@ -62,37 +53,6 @@ pub text_more : (bs : List ℕ) (n : ℕ) (x : ℤ) → Word x → take 12 (drop
 text_more bs n x h e t =
     ap lines_of (line_more bs n x h e) ∙ lines_of_push (readings n bs) x ∙ ap (λ y. y ++ line_of x) t ∙ ap (λ y. take (12 * n) bs ++ y) (sym e) ∙ sym (take_lines bs n)
 
--- a line written after n lines
-
-pub record Over (bs : List ℕ) (n : ℕ) (x : ℤ) (cs : List ℕ) : Type 0 where
-  pub same : readings n cs ≡ readings n bs
-  pub front : take (12 * n) cs ≡ take (12 * n) bs
-  pub line : take 12 (drop (12 * n) cs) ≡ line_of x
-
-pub written_over : (bs cs : List ℕ) (n : ℕ) (x : ℤ) → 12 * n ≤ length bs → take (12 * n + 12) cs ≡ take (12 * n) bs ++ line_of x → Over bs n x cs
-written_over bs cs n x l e =
-    let long = length-take-le (12 * n) bs l in
-    let le : 12 * n ≤ 12 * n + 12 = omega arith in
-    let f : take (12 * n) cs ≡ take (12 * n) bs = sym (take-take (12 * n) (12 * n + 12) cs le) ∙ ap (take (12 * n)) e ∙ take_at (take (12 * n) bs) (line_of x) (12 * n) long in
-    record {
-      same = readings_front n cs bs f;
-      front = f;
-      line = sym (drop-take (12 * n) 12 cs) ∙ ap (drop (12 * n)) e ∙ drop_at (take (12 * n) bs) (line_of x) (12 * n) long;
-    }
-
-pub put_text : (bs cs : List ℕ) (n : ℕ) (x : ℤ) → Word x → Over bs n x cs → lines_of (readings n bs) ≡ take (12 * n) bs → lines_of (readings (n + 1) cs) ≡ take (12 * (n + 1)) cs
-put_text bs cs n x h o t = text_more cs n x h o.line (ap lines_of o.same ∙ t ∙ sym o.front)
-
-pub put_appends : (bs cs : List ℕ) (n : ℕ) (x : ℤ) → Word x → Over bs n x cs → n < length bs / 12 → length cs ≡ length bs → Appended (text_means bs n) x (text_means cs (n + 1))
-put_appends bs cs n x h o l k =
-    record {
-      free = omega arith;
-      written = line_more cs n x h o.line ∙ ap (λ t. t ++ x ∷ []) o.same;
-      lower = (let e : length cs / 12 ≡ length bs / 12 = ap (λ m. m / 12) k in omega arith);
-      pinch = refl;
-      rests = omega (arith, length_readings n bs, length_readings (n + 1) cs);
-    }
-
 -- a text from its front
 
 pub numbers_short : (bs : List ℕ) → length bs < 12 → numbers_in bs ≡ []
@@ -106,104 +66,139 @@ numbers_long bs l =
 pub record Front (bs : List ℕ) : Type 0 where
   pub word : Word (number_in (take 12 bs))
   pub line : take 12 bs ≡ line_of (number_in (take 12 bs))
-  pub text : lines_of (numbers_in (drop 12 bs)) ≡ drop 12 bs
-  pub words : Words (numbers_in (drop 12 bs))
+  pub rest : Lines (drop 12 bs)
 
-pub front : (bs : List ℕ) → 12 ≤ length bs → lines_of (numbers_in bs) ≡ bs → Words (numbers_in bs) → Front bs
-front bs l t w =
+pub front : (bs : List ℕ) → 12 ≤ length bs → Lines bs → Front bs
+front bs l b =
     let n = numbers_long bs l in
-    let v = subst Words n w in
+    let v = subst Words n b.words in
     let h : Word (number_in (take 12 bs)) = v 0 (omega arith) in
     let s = line_long (number_in (take 12 bs)) h in
-    let u : line_of (number_in (take 12 bs)) ++ lines_of (numbers_in (drop 12 bs)) ≡ bs = sym (ap lines_of n) ∙ t in
+    let u : line_of (number_in (take 12 bs)) ++ lines_of (numbers_in (drop 12 bs)) ≡ bs = sym (ap lines_of n) ∙ b.text in
     record {
       word = h;
       line = sym (ap (take 12) u) ∙ take_at (line_of (number_in (take 12 bs))) (lines_of (numbers_in (drop 12 bs))) 12 s;
-      text = sym (drop_at (line_of (number_in (take 12 bs))) (lines_of (numbers_in (drop 12 bs))) 12 s) ∙ ap (drop 12) u;
-      words = words_rest (number_in (take 12 bs)) (numbers_in (drop 12 bs)) v;
+      rest = record {
+        text = sym (drop_at (line_of (number_in (take 12 bs))) (lines_of (numbers_in (drop 12 bs))) 12 s) ∙ ap (drop 12) u;
+        words = words_rest (number_in (take 12 bs)) (numbers_in (drop 12 bs)) v;
+      };
     }
 
 pub taken_number : (bs : List ℕ) (x : ℤ) → 12 ≤ length bs → Word x → take 12 bs ≡ line_of x → numbers_in bs ≡ x ∷ numbers_in (drop 12 bs)
 taken_number bs x l h e = numbers_long bs l ∙ ap (λ z. z ∷ numbers_in (drop 12 bs)) (ap number_in e ∙ number_in_line x h)
 
--- the first line that is none
-pub short_line : (bs : List ℕ) → length bs < 12 → (z : ℤ) → Word z → take 12 bs ≡ line_of z → ⊥
-short_line bs l z h e = omega (arith, length-take 12 bs, ap length e, line_long z h)
+-- the text of some numbers has these numbers
+pub numbers_of_lines : (zs : List ℤ) → Words zs → numbers_in (lines_of zs) ≡ zs
+numbers_of_lines [] w = refl
+numbers_of_lines (z ∷ zs) w =
+    let h : Word z = w 0 (omega arith) in
+    let s = line_long z h in
+    let l : 12 ≤ length (line_of z ++ lines_of zs) = omega (arith, length-append (line_of z) (lines_of zs), s) in
+    let d = drop_at (line_of z) (lines_of zs) 12 s in
+    taken_number (line_of z ++ lines_of zs) z l h (take_at (line_of z) (lines_of zs) 12 s) ∙ ap (λ t. z ∷ t) (ap numbers_in d ∙ numbers_of_lines zs (words_rest z zs w))
 
-pub first_bad : (bs : List ℕ) (n : ℕ) → 12 * n < length bs → lines_of (readings n bs) ≡ take (12 * n) bs → Words (readings n bs) → ((z : ℤ) → Word z → take 12 (drop (12 * n) bs) ≡ line_of z → ⊥) → FirstBad bs (n + 1)
-first_bad bs n l t w f =
-    let e : n ≡ (n + 1) - 1 = omega arith in
+-- a line written after others
+
+pub record Longer (bs : List ℕ) (x : ℤ) : Type 0 where
+  pub numbers : numbers_in (bs ++ line_of x) ≡ numbers_in bs ++ x ∷ []
+  pub lines : Lines (bs ++ line_of x)
+
+pub longer : (bs : List ℕ) (x : ℤ) → Lines bs → Word x → Longer bs x
+longer bs x l h =
+    let e : lines_of (numbers_in bs ++ x ∷ []) ≡ bs ++ line_of x = lines_of_push (numbers_in bs) x ∙ ap (λ t. t ++ line_of x) l.text in
+    let w = words_push (numbers_in bs) x l.words h in
+    let n : numbers_in (bs ++ line_of x) ≡ numbers_in bs ++ x ∷ [] = ap numbers_in (sym e) ∙ numbers_of_lines (numbers_in bs ++ x ∷ []) w in
+    record { numbers = n; lines = record { text = ap lines_of n ∙ e; words = subst Words (sym n) w } }
+
+pub put_appends : (bs : List ℕ) (left : ℕ) (x : ℤ) → Lines bs → Word x → (left ≡ 0 → ⊥) → Appended (filling_means (record { written = numbers_in bs; room = left })) x (filling_means (record { written = numbers_in (bs ++ line_of x); room = left - 1 }))
+put_appends bs left x l h some =
+    let n = (longer bs x l h).numbers in
     record {
-      counted = omega arith;
-      before = subst (λ k. lines_of (readings k bs) ≡ take (12 * k) bs) e t;
-      words = subst (λ k. Words (readings k bs)) e w;
-      inside = omega arith;
-      bad = subst (λ k. (z : ℤ) → Word z → take 12 (drop (12 * k) bs) ≡ line_of z → ⊥) e f;
+      free = omega arith;
+      written = n;
+      lower = omega arith;
+      pinch = refl;
+      rests = omega (arith, ap length n, length_push (numbers_in bs) x);
     }
 
-pub all_lines : (bs : List ℕ) (n : ℕ) → 12 * n ≤ length bs → length bs ≤ 12 * n → lines_of (readings n bs) ≡ take (12 * n) bs → Words (readings n bs) → (lines_of (numbers_in bs) ≡ bs) × Words (numbers_in bs)
-all_lines bs n a b t w =
-    let e : n ≡ length bs / 12 = omega arith in
-    (sym (ap (λ k. lines_of (readings k bs)) e) ∙ t ∙ take_all (12 * n) bs b, subst (λ k. Words (readings k bs)) e w)
+-- the first line that is none
 
 pub words_more : (bs : List ℕ) (n : ℕ) (x : ℤ) → Word x → take 12 (drop (12 * n) bs) ≡ line_of x → Words (readings n bs) → Words (readings (n + 1) bs)
 words_more bs n x h e w = subst Words (sym (line_more bs n x h e)) (words_push (readings n bs) x w h)
 
--- what a reader's answer says
-pub none_read : (bs : List ℕ) (r : Option ℤ) → is_some r ≡ false → Read bs r → (z : ℤ) → Word z → bs ≡ line_of z → ⊥
-none_read bs None e h = h
-none_read bs (Some x) e h = absurd (grind arith)
+-- 12 bytes that are a number's line
+abbrev pub IsLine : List ℕ → Type 0
+IsLine b = (x : ℤ) × Word x × (b ≡ line_of x)
 
-pub some_read : (bs : List ℕ) (r : Option ℤ) → is_some r ≡ true → Read bs r → (x : ℤ) × Word x × (bs ≡ line_of x)
-some_read bs None e h = absurd (grind arith)
-some_read bs (Some x) e h = (x, h.0, h.1)
+abbrev pub NoLine : List ℕ → Type 0
+NoLine b = (z : ℤ) → Word z → b ≡ line_of z → ⊥
 
--- a part of 12 bytes
-pub twelve : (n : ℕ) (bs : List ℕ) → take ((n + 12) - n) (drop n bs) ≡ take 12 (drop n bs)
-twelve n bs = ap (λ k. take k (drop n bs)) (let e : (n + 12) - n ≡ 12 = omega arith in e)
+pub none_read : (b : List ℕ) (r : Option ℤ) → is_none r ≡ true → Read b r → NoLine b
+none_read b None e h = h
+none_read b (Some x) e h = absurd (grind arith)
 
--- chunks of 12 bytes
+pub some_read : (b : List ℕ) (r : Option ℤ) → is_none r ≡ false → Read b r → IsLine b
+some_read b None e h = absurd (grind arith)
+some_read b (Some x) e h = (x, h.0, h.1)
 
-pub chunk_is : (rest line more : List ℕ) → rest ≡ line ++ more → length line ≡ min 12 (length rest) → take 12 rest ≡ line
-chunk_is rest line more e l =
-    let n = length-append line more in
-    let m = ap length e in
-    elim (cases_lt (length line) 12) [
-      | inl lt ↦ (let z : length rest ≤ length line = omega arith in let f : length rest ≤ 12 = omega arith in take_all 12 rest f ∙ sym (take_all (length line) rest z) ∙ ap (take (length line)) e ∙ take_at line more (length line) refl)
-      | inr ge ↦ (let z : length line ≡ 12 = omega arith in ap (take 12) e ∙ take_at line more 12 z)
-    ]
-
-pub record Chunked (bs : List ℕ) (size : ℕ) (rest : List ℕ) (n : ℕ) : Type 0 where
-  pub wide : size ≡ 12
-  pub left : rest ≡ drop (12 * n) bs
+-- the first n lines are numbers' lines
+pub record Before (bs : List ℕ) (n : ℕ) : Type 0 where
   pub far : 12 * n ≤ length bs
   pub text : lines_of (readings n bs) ≡ take (12 * n) bs
   pub words : Words (readings n bs)
 
-pub chunk_bad : (bs rest line more : List ℕ) (size n : ℕ) (r : Option ℤ) → Chunked bs size rest n → rest ≡ line ++ more → length line ≡ min size (length rest) → 0 < length rest → is_some r ≡ false → Read line r → FirstBad bs (n + 1)
-chunk_bad bs rest line more size n r c e l some f h =
-    let w : length line ≡ min 12 (length rest) = l ∙ ap (λ k. min k (length rest)) c.wide in
-    let t : take 12 (drop (12 * n) bs) ≡ line = sym (ap (take 12) c.left) ∙ chunk_is rest line more e w in
-    let d = ap length c.left ∙ length-drop (12 * n) bs in
-    first_bad bs n (omega arith) c.text c.words (λ z g q. none_read line r f h z g (sym t ∙ q))
-
-pub chunk_more : (bs rest line more : List ℕ) (size size' n n' : ℕ) (r : Option ℤ) → Chunked bs size rest n → size' ≡ size → n' ≡ n + 1 → rest ≡ line ++ more → length line ≡ min size (length rest) → is_some r ≡ true → Read line r → Chunked bs size' more n'
-chunk_more bs rest line more size size' n n' r c s u e l some h =
-    let w : length line ≡ min 12 (length rest) = l ∙ ap (λ k. min k (length rest)) c.wide in
-    let t : take 12 (drop (12 * n) bs) ≡ line = sym (ap (take 12) c.left) ∙ chunk_is rest line more e w in
-    let x = some_read line r some h in
-    let long : length line ≡ 12 = ap length x.2 ∙ line_long x.0 x.1 in
-    let d = ap length c.left ∙ length-drop (12 * n) bs in
-    let k : 12 * n + 12 ≡ 12 * n' = omega arith in
+before : (bs : List ℕ) (n : ℕ) → ((i : ℕ) → i < n → IsLine (take 12 (drop (12 * i) bs))) → Before bs n
+before bs zero l = record { far = omega arith; text = refl; words = λ k h. absurd (omega arith) }
+before bs (suc n) l =
+    let b = before bs n (λ i h. l i (omega arith)) in
+    let x = l n (omega arith) in
+    let long = ap length x.2 ∙ line_long x.0 x.1 in
+    let s : n + 1 ≡ suc n = omega arith in
     record {
-      wide = s ∙ c.wide;
-      left = sym (drop_at line more 12 long) ∙ ap (drop 12) (sym e ∙ c.left) ∙ drop-drop 12 (12 * n) bs ∙ ap (λ j. drop j bs) k;
-      far = omega arith;
-      text = subst (λ m. lines_of (readings m bs) ≡ take (12 * m) bs) (sym u) (text_more bs n x.0 x.1 (t ∙ x.2) c.text);
-      words = subst (λ m. Words (readings m bs)) (sym u) (words_more bs n x.0 x.1 (t ∙ x.2) c.words);
+      far = omega (arith, long, length-take 12 (drop (12 * n) bs), length-drop (12 * n) bs);
+      text = subst (λ m. lines_of (readings m bs) ≡ take (12 * m) bs) s (text_more bs n x.0 x.1 x.2 b.text);
+      words = subst (λ m. Words (readings m bs)) s (words_more bs n x.0 x.1 x.2 b.words);
     }
 
-pub chunk_all : (bs rest : List ℕ) (size n : ℕ) → Chunked bs size rest n → length rest ≡ 0 → (lines_of (numbers_in bs) ≡ bs) × Words (numbers_in bs)
-chunk_all bs rest size n c z =
-    let d = ap length c.left ∙ length-drop (12 * n) bs in
-    all_lines bs n c.far (omega arith) c.text c.words
+-- the chunks of 12 bytes
+
+abbrev pub IsChunk : List ℕ → ℕ → ℕ → Bor (List ℕ) → Type 0
+IsChunk bs size i x = (0 < length x.now) × (i * size < length bs) × IsSubsliceAt size bs (i * size) x.now
+
+chunk : (P : List ℕ → Type 0) (Q : Bor (List ℕ) → Type 0) → ((x : Bor (List ℕ)) → Q x → P x.now) → (bs : List ℕ) (i : ℕ) (o : Option (Bor (List ℕ))) → IfSome o (λ x. IsChunk bs 12 i x) → IsSomeAnd o Q → (12 * i < length bs) × P (take 12 (drop (12 * i) bs))
+chunk P Q f bs i None c h = absurd h
+chunk P Q f bs i (Some x) c h =
+    let e : i * 12 ≡ 12 * i = omega arith in
+    (omega (arith, c.1), subst P (c.2.0 ∙ ap (λ k. take 12 (drop k bs)) e) (f x h))
+
+there : (Q : Bor (List ℕ) → Type 0) (o : Option (Bor (List ℕ))) (x : Bor (List ℕ)) → option_map (λ y. y) o ≡ Some x → IfSome o Q → IsSomeAnd o Q
+there Q None x e h = absurd (grind arith)
+there Q (Some y) x e h = h
+
+-- an answer of Yes says that a chunk is no line, and one of No that it is one
+pub first_bad : (Yes No : Bor (List ℕ) → Type 0) → ((x : Bor (List ℕ)) → Yes x → NoLine x.now) → ((x : Bor (List ℕ)) → No x → IsLine x.now) → (bs rest : List ℕ) (size : ℕ) (at : ℕ → Option (Bor (List ℕ))) (n : ℕ) → rest ≡ bs → size ≡ 12 → ((i : ℕ) → IfSome (at i) (λ x. IsChunk rest size i x)) → IsSomeAnd (at n) Yes × ((i : ℕ) → i < n → IsSomeAnd (at i) No) → FirstBad bs (n + 1)
+first_bad Yes No refused accepted bs rest size at n r s c found =
+    let d : (i : ℕ) → IfSome (at i) (λ x. IsChunk bs 12 i x) = subst (λ k. (i : ℕ) → IfSome (at i) (λ x. IsChunk bs k i x)) s (subst (λ b. (i : ℕ) → IfSome (at i) (λ x. IsChunk b size i x)) r c) in
+    let b = before bs n (λ i h. (chunk IsLine No accepted bs i (at i) (d i) (found.1 i h)).1) in
+    let x = chunk NoLine Yes refused bs n (at n) (d n) found.0 in
+    let e : n ≡ (n + 1) - 1 = omega arith in
+    record {
+      counted = omega arith;
+      before = subst (λ k. lines_of (readings k bs) ≡ take (12 * k) bs) e b.text;
+      words = subst (λ k. Words (readings k bs)) e b.words;
+      inside = omega (arith, x.0);
+      bad = subst (λ k. NoLine (take 12 (drop (12 * k) bs))) e x.1;
+    }
+
+pub all_lines : (No : Bor (List ℕ) → Type 0) → ((x : Bor (List ℕ)) → No x → IsLine x.now) → (bs rest : List ℕ) (size : ℕ) (at : ℕ → Option (Bor (List ℕ))) (n : ℕ) (d : ℕ → Bor (List ℕ)) → rest ≡ bs → size ≡ 12 → ((i : ℕ) → IfSome (at i) (λ x. IsChunk rest size i x)) → n ≡ chunk_count (length rest) size → ((i : ℕ) → i < n → option_map (λ y. y) (at i) ≡ Some (d i)) → ((i : ℕ) → IfSome (at i) No) → Lines bs
+all_lines No accepted bs rest size at n d r s c all read good =
+    let e : (i : ℕ) → IfSome (at i) (λ x. IsChunk bs 12 i x) = subst (λ k. (i : ℕ) → IfSome (at i) (λ x. IsChunk bs k i x)) s (subst (λ b. (i : ℕ) → IfSome (at i) (λ x. IsChunk b size i x)) r c) in
+    let b = before bs n (λ i h. (chunk IsLine No accepted bs i (at i) (e i) (there No (at i) (d i) (read i h) (good i))).1) in
+    let count : n ≡ chunk_count (length bs) 12 = all ∙ ap (λ k. chunk_count (length rest) k) s ∙ ap (λ b. chunk_count (length b) 12) r in
+    let far = b.far in
+    let near : length bs ≤ 12 * n = omega arith in
+    let whole : n ≡ length bs / 12 = omega arith in
+    record {
+      text = sym (ap (λ k. lines_of (readings k bs)) whole) ∙ b.text ∙ take_all (12 * n) bs near;
+      words = subst (λ k. Words (readings k bs)) whole b.words;
+    }

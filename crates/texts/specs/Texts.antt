@@ -4,13 +4,9 @@
 --   numbers_in   the numbers of all whole lines
 --   Words        numbers of 32 bits, all of them
 --   FirstBad     the first line that is no number's
---   Checked      the answer to whether a text is lines alone
---   text_means   what a text output tape means
-use Rattle.std.specs.Prelude.{◌≡◌, ℕ, zero, suc, ◌-◌, ◌*◌, ◌/◌, ◌<◌, ◌≤◌, List, [], ◌∷◌, ◌++◌, length, take, drop, ℤ, pos, Some, None, Option, ◌≢◌, slice_index_or}
-use Rattle.std.proofs.Common.{arith}
+--   Lines        bytes that are lines alone
+use Rattle.std.specs.Prelude.{◌≡◌, ℕ, zero, suc, ◌-◌, ◌*◌, ◌/◌, ◌<◌, ◌≤◌, List, [], ◌∷◌, ◌++◌, length, take, drop, ℤ, pos, ◌≢◌, slice_index_or}
 use Rattle.lines.specs.Lines.{Word, line_of, number_in}
-use Rattle.tapes.specs.Meaning.{Meaning, pinch_of, AtRest}
-use Rattle.tapes.specs.declared.output.Reason.TheVariants.{Full}
 
 abbrev pub lines_of : List ℤ → List ℕ
 lines_of [] = []
@@ -34,13 +30,7 @@ pub record FirstBad (bs : List ℕ) (k : ℕ) : Type 0 where
   pub inside : 12 * (k - 1) < length bs
   pub bad : (z : ℤ) → Word z → take 12 (drop (12 * (k - 1)) bs) ≢ line_of z
 
-abbrev pub Checked : List ℕ → Option ℕ → Type 0
-Checked bs None = (lines_of (numbers_in bs) ≡ bs) × Words (numbers_in bs)
-Checked bs (Some k) = FirstBad bs k
-
--- n lines are written, in memory that has room for so many as are whole
-abbrev pub text_means : List ℕ → ℕ → Meaning
-text_means bs n = record { written = readings n bs; rest = length (readings n bs); room = length bs / 12 - n; pinch = pinch_of 0 Full }
-
-pub text_bounded : (bs : List ℕ) (n : ℕ) → AtRest (text_means bs n)
-text_bounded bs n = omega arith
+-- bytes that are lines alone
+pub record Lines (bs : List ℕ) : Type 0 where
+  pub text : lines_of (numbers_in bs) ≡ bs
+  pub words : Words (numbers_in bs)

@@ -1,53 +1,56 @@
 // An input tape over text, one number to a line.
-ghost use Rattle.std.specs.Prelude.{◌≡◌, ◌≤◌, length, drop, MatchResult};
-ghost use Rattle.texts.specs.Texts.{lines_of, numbers_in, Words, FirstBad, Checked};
+ghost use Rattle.std.specs.Prelude.{◌≡◌, MatchResult};
+ghost use Rattle.texts.specs.Texts.{lines_of, Words, FirstBad, Lines};
 ghost use Rattle.texts.specs.Refusals.{place_of};
 
 use crate::refusals::Refusal;
 use lines::read_line;
+use std::marker::Model;
 use tapes::input::InputTape;
 
 #[derive(Drop)]
 pub struct TextInput {
     bytes: Vec<u8>,
     next: usize,
-    ghost within: { next ≤ length bytes.items },
-    ghost text: { lines_of (numbers_in (drop next bytes.items)) ≡ drop next bytes.items },
-    ghost words: { Words (numbers_in (drop next bytes.items)) },
+}
+
+impl Model for TextInput {
+    ghost use Rattle.std.specs.Prelude.{List, ℤ, ◌≤◌, length, drop};
+    ghost use Rattle.texts.specs.Texts.{numbers_in, Lines};
+
+    ghost Value = { List ℤ };
+
+    ghost view = { λ t. numbers_in (drop t.next t.bytes.items) };
+
+    ghost invariant = { λ t. (t.next ≤ length t.bytes.items) × Lines (drop t.next t.bytes.items) };
 }
 
 impl TextInput {
     // A tape on which the numbers of all lines wait; their lines are the bytes.
     pub fn new(bytes: Vec<u8>) -> Result<TextInput, Refusal>
-        ensures { MatchResult result (λ t. lines_of (numbers_in (drop t.next t.bytes.items)) ≡ bytes.items) (λ e. FirstBad bytes.items (place_of e)) }
+        ensures { MatchResult result (λ waiting. (lines_of waiting ≡ bytes.items) × Words waiting) (λ e. FirstBad bytes.items (place_of e)) }
     {
-        match bad_line(&bytes) {
-            Some(line) => Err(Refusal::NotALine(line)),
-            None => Ok(TextInput { bytes, next: 0 }),
-        }
+        check(&bytes)?;
+        Ok(TextInput { bytes, next: 0 })
     }
 }
 
-// The first line, from 1, that is no number's.
-fn bad_line(bytes: &[u8]) -> Option<usize>
-    ensures { Checked bytes.now result }
+// Refuses the first line that is no number's.
+fn check(bytes: &[u8]) -> Result<(), Refusal>
+    ensures { MatchResult result (λ _. Lines bytes.now) (λ e. FirstBad bytes.now (place_of e)) }
 {
-    for (k, line) in bytes.chunks(12).enumerate() {
-        if read_line(line).is_none() {
-            return Some(k + 1);
-        }
+    match bytes.chunks(12).position(|line| read_line(line).is_none()) {
+        Some(before) => Err(Refusal::NotALine(before + 1)),
+        None => Ok(()),
     }
-    None
 }
 
 impl InputTape for TextInput {
-    ghost waiting = { λ t. numbers_in (drop t.next t.bytes.items) };
+    ghost waiting = { λ t. t };
 
     fn take(&mut self) -> Option<i32> {
-        if self.bytes.len() - self.next < 12 {
-            return None;
-        }
-        let x = read_line(&self.bytes[self.next..self.next + 12])?;
+        let (line, _) = self.bytes[self.next..].split_first_chunk::<12>()?;
+        let x = read_line(line)?;
         self.next += 12;
         Some(x)
     }
@@ -56,31 +59,20 @@ impl InputTape for TextInput {
 #[cfg(test)]
 mod tests {
     use super::*;
-    use std::alloc::Global;
     use std::test::Fail;
 
-    // How many numbers a text gives, or the line that is refused.
-    fn taken(heap: Global, text: &[u8]) -> Result<Result<u32, Refusal>, Fail> {
-        let mut tape = match TextInput::new(text.to_vec(heap)?) {
-            Ok(tape) => tape,
-            Err(refusal) => return Ok(Err(refusal)),
-        };
-        for count in 0..9u32 {
-            if tape.take().is_none() {
-                return Ok(Ok(count));
-            }
-        }
-        Err(Fail::new("too many numbers"))
+    // How many numbers a text gives, nine at most, or the line that is refused.
+    fn taken(bytes: Vec<u8>) -> Result<usize, Refusal> {
+        let mut tape = TextInput::new(bytes)?;
+        Ok((0..9).take_while(|_| tape.take().is_some()).count())
     }
 
     #[test]
     fn lines_are_taken(rt: HostRuntime) -> Result<(), Fail> {
         let heap = rt.alloc();
-        assert_eq!(rt; taken(heap, b"")?, Ok(0));
-        assert_eq!(rt;
-            taken(heap, b"          4\n-2147483648\n 2147483647\n")?,
-            Ok(3)
-        );
+        assert_eq!(rt; taken(Vec::new(heap)), Ok(0));
+        let three = b"          4\n-2147483648\n 2147483647\n";
+        assert_eq!(rt; taken(three.to_vec(heap)?), Ok(3));
         Ok(())
     }
 
@@ -97,7 +89,10 @@ mod tests {
             (b"5\n", 1),
         ];
         for (text, line) in cases {
-            assert_eq!(rt; taken(rt.alloc(), text)?, Err(Refusal::NotALine(line)));
+            assert_eq!(rt;
+                taken(text.to_vec(rt.alloc())?),
+                Err(Refusal::NotALine(line))
+            );
         }
         Ok(())
     }

@@ -1,54 +1,66 @@
 // An output tape over text in memory given at the start, one number to a line.
-ghost use Rattle.std.specs.Prelude.{◌≡◌, ◌+◌, ◌*◌, ◌≤◌, ◌++◌, length, take, vec_len};
+ghost use Rattle.std.specs.Prelude.{◌≡◌, ◌+◌, ◌/◌, ◌≤◌, ◌++◌, length, vec_len, vec_capacity};
 ghost use Rattle.lines.specs.Lines.{line_of};
-ghost use Rattle.texts.specs.Texts.{lines_of, readings, text_means, text_bounded};
+ghost use Rattle.tapes.specs.Meaning.{unwritten, filling_means, filling_bounded};
+ghost use Rattle.texts.specs.Texts.{lines_of};
 
 use lines::write_line;
+use std::marker::Model;
 use tapes::output::{OutputTape, Pinch};
 
 #[derive(Drop)]
 pub struct TextOutput {
-    bytes: Vec<u8>,
-    lines: usize,
-    ghost fit: { 12 * lines ≤ length bytes.items },
-    ghost text: { lines_of (readings lines bytes.items) ≡ take (12 * lines) bytes.items },
+    text: Vec<u8>,
+    left: usize,
+}
+
+impl Model for TextOutput {
+    ghost use Rattle.std.specs.Prelude.{◌+◌, ◌*◌, ◌≤◌, vec_len, vec_capacity};
+    ghost use Rattle.tapes.specs.Meaning.{Filling};
+    ghost use Rattle.texts.specs.Texts.{numbers_in, Lines};
+
+    ghost Value = { Filling };
+
+    ghost view = { λ t. record { written = numbers_in t.text.items; room = t.left } };
+
+    ghost invariant = { λ t. (vec_len t.text + 12 * t.left ≤ vec_capacity t.text) × Lines t.text.items };
 }
 
 impl TextOutput {
     // A tape with nothing written, and as much room as the memory has whole lines.
-    pub fn new(memory: Vec<u8>) -> TextOutput
-        ensures { text_means result.bytes.items result.lines ≡ text_means memory.items 0 }
+    pub fn new(mut memory: Vec<u8>) -> TextOutput
+        ensures { result ≡ unwritten (length memory.items / 12) }
     {
-        TextOutput {
-            bytes: memory,
-            lines: 0,
-        }
+        let left = memory.len() / 12;
+        memory.clear();
+        TextOutput { text: memory, left }
     }
 
     // The lines of the numbers written.
     pub fn text(&self) -> &[u8]
-        ensures { result.now ≡ lines_of (text_means self.now.bytes.items self.now.lines).written }
+        ensures { result.now ≡ lines_of self.now.written }
     {
-        &self.bytes[0..12 * self.lines]
+        &self.text
     }
 }
 
-// Writes the line of a number over 12 bytes.
-fn overwrite(bytes: &mut Vec<u8>, at: usize, x: i32)
-    requires { at + 12 ≤ vec_len bytes.old }
-    ensures len { vec_len bytes.new ≡ vec_len bytes.old }
-    ensures front { take (at + 12) bytes.new.items ≡ take at bytes.old.items ++ line_of x }
+// Appends the line of a number where there is capacity, and so allocates nothing.
+fn append_line(text: &mut Vec<u8>, x: i32)
+    requires { vec_len text.old + 12 ≤ vec_capacity text.old }
+    ensures items { text.new.items ≡ text.old.items ++ line_of x }
+    ensures len { vec_len text.new ≡ vec_len text.old + 12 }
+    ensures capacity { vec_capacity text.old ≤ vec_capacity text.new }
 {
-    bytes[at..at + 12].copy_from_slice(&write_line(x));
+    let _ = text.extend_from_slice(&write_line(x));
 }
 
 impl OutputTape for TextOutput {
-    ghost means = { λ t. text_means t.bytes.items t.lines };
+    ghost means = { filling_means };
 
-    ghost bounded = { λ t. text_bounded t.bytes.items t.lines };
+    ghost bounded = { filling_bounded };
 
     fn room(&self) -> usize {
-        self.bytes.len() / 12 - self.lines
+        self.left
     }
 
     fn pinch(&self) -> Pinch {
@@ -56,11 +68,11 @@ impl OutputTape for TextOutput {
     }
 
     fn put(&mut self, x: i32) -> Result<(), Pinch> {
-        if self.lines >= self.bytes.len() / 12 {
+        if self.left == 0 {
             return Err(Pinch::full());
         }
-        overwrite(&mut self.bytes, 12 * self.lines, x);
-        self.lines += 1;
+        append_line(&mut self.text, x);
+        self.left -= 1;
         Ok(())
     }
 

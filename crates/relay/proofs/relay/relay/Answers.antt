@@ -9,7 +9,7 @@ loop-x-preserved g c =
     let means = g.O.OutputTape.means in
     let narrowed = g.U.Arithmetic.narrowed in
     let fits : SFits w32 c.in-Some.x = search rules in
-    let d = simp to_z-of_z at c.deliver-delivery.ensures in
+    let d = simp to_z-of_z at c.deliver.ensures in
     delivered narrowed _ c.in-Some.x _ _ (waiting c.take.new.self) d
     ∙ ap (λ ys. whole narrowed ys (means c.loop-x.output)) (sym c.in-Some.ensures)
     ∙ c.loop-x.invariant

@@ -1,25 +1,12 @@
-use Rattle.std.proofs.Common.{◌≡◌, ◌*◌, ◌++◌, length, take, vec_items, ap, ◌∙◌, arith, w32, rules}
+use Rattle.std.proofs.Common.{arith, w32}
 use Rattle.std.proofs.lemmas.Int.{to_z-of_z}
-use Rattle.lines.specs.Lines.{Word, line_of}
-use Rattle.texts.proofs.Lines.{written_over, put_text, put_appends}
+use Rattle.texts.proofs.Lines.{longer, put_appends}
 use Rattle.texts.proofs.output.TextOutputOutputTape.put.Goals as goal
 
 pub invariant_of-self : goal.invariant_of-self
 invariant_of-self c =
-    let t = c.args.self.now in
-    let w : Word c.args.x = c.ranges.x.sfits in
-    let k : length (vec_items c.overwrite.new.bytes) ≡ length (vec_items t.bytes) = search rules in
-    let l : c.len.result ≡ length (vec_items t.bytes) = search rules in
-    let x-is = to_z-of_z w32 c.args.x c.ranges.x in
-    let o = written_over (vec_items t.bytes) (vec_items c.overwrite.new.bytes) t.lines c.args.x t.fit (c.overwrite.ensures.front ∙ ap (λ z. take (12 * t.lines) (vec_items t.bytes) ++ line_of z) x-is) in
-    record { fit = omega arith; text = put_text _ _ _ _ w o t.text }
+    let l = longer c.self.inside.text.items c.args.x c.self.invariant.1 c.ranges.x.sfits in
+    (omega (arith, c.self.invariant.0, c.append_line.ensures.len, c.append_line.ensures.capacity), rw (c.append_line.ensures.items, to_z-of_z w32 c.args.x c.ranges.x) l.lines)
 
 pub returns : goal.returns
-returns c =
-    let t = c.args.self.now in
-    let w : Word c.args.x = c.ranges.x.sfits in
-    let k : length (vec_items c.overwrite.new.bytes) ≡ length (vec_items t.bytes) = search rules in
-    let l : c.len.result ≡ length (vec_items t.bytes) = search rules in
-    let x-is = to_z-of_z w32 c.args.x c.ranges.x in
-    let o = written_over (vec_items t.bytes) (vec_items c.overwrite.new.bytes) t.lines c.args.x t.fit (c.overwrite.ensures.front ∙ ap (λ z. take (12 * t.lines) (vec_items t.bytes) ++ line_of z) x-is) in
-    put_appends _ _ _ _ w o (omega arith) k
+returns c = rw (← c.self.view_is, c.append_line.ensures.items, to_z-of_z w32 c.args.x c.ranges.x) (put_appends _ _ _ c.self.invariant.1 c.ranges.x.sfits c.if-self-eq0.false)

@@ -1,6 +1,5 @@
 -- A declaration, name by name.
 use Rattle.std.proofs.Common.{◌≡◌, ℕ, ◌+◌, ◌-◌, ◌<◌, ◌≤◌, true, false, ◌⊎◌, List, [], length, get_or, take, is_some, Some, None, Option, sym, refl, ap, ◌∙◌, subst, inl, inr, arith}
-use native.Mathlib.Nat.{sub-zero}
 use Rattle.std.proofs.lemmas.List.{get_or-take, length-take-le}
 use Rattle.std.proofs.lemmas.Bool.{cases_order, false≢true, true≢false}
 use Rattle.syntax.specs.declared.tree.Name as coded
@@ -50,12 +49,12 @@ declared : (es : Entries) → length es ≤ 64 → Apart es (length es) → Decl
 declared es few once = record { few = few; once = once; cells = λ i h. cell_is es i (cell_of es (name_at es i)) once h (looked es (name_at es i)) }
 
 -- as the code looks a name up, among those before it
-module _ (s : List ℕ) (ns : List coded.Name) (i : ℕ) (d : coded.Name) (h : i < length ns) (o : Option ℕ) (found : Looked (declared_of s (take (i - 0) ns)) (name_of s (get_or ns i d)) o) where
+module _ (s : List ℕ) (ns : List coded.Name) (i : ℕ) (d : coded.Name) (h : i < length ns) (o : Option ℕ) (found : Looked (declared_of s (take i ns)) (name_of s (get_or ns i d)) o) where
   among : Looked (take i (declared_of s ns)) (name_at (declared_of s ns) i) o
   among =
       let P : Entries → Type 0 = λ es. Looked es (name_at (declared_of s ns) i) o in
-      let Q : Name → Type 0 = λ x. Looked (declared_of s (take (i - 0) ns)) x o in
-      subst P (ap (λ n. declared_of s (take n ns)) (sub-zero i) ∙ take_entries s ns i) (subst Q (sym (ap (λ e. e.0) (entry_at s ns i d h))) found)
+      let Q : Name → Type 0 = λ x. Looked (declared_of s (take i ns)) x o in
+      subst P (take_entries s ns i) (subst Q (sym (ap (λ e. e.0) (entry_at s ns i d h))) found)
 
   within : i < length (declared_of s ns)
   within = omega (arith, length_entries s ns)

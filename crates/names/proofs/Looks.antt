@@ -1,18 +1,31 @@
 -- What a look-up answers.
-use Rattle.std.proofs.Common.{◌≡◌, ℕ, zero, suc, ◌+◌, ◌-◌, ◌<◌, ◌≤◌, Bool, true, false, cond, List, [], ◌∷◌, length, get_or, drop, Some, None, Option, sym, refl, ap, ◌∙◌, arith}
+use Rattle.std.proofs.Common.{◌≡◌, ℕ, zero, suc, ◌+◌, ◌-◌, ◌<◌, ◌≤◌, Bool, true, false, cond, List, [], ◌∷◌, length, Some, None, Option, sym, refl, ap, ◌∙◌, arith}
 use Rattle.std.specs.Str.{bytes_eq}
 use Rattle.std.proofs.lemmas.Slice.Eq.{bytes_eq-Decides}
-use Rattle.std.proofs.lemmas.List.{at_drop_more}
+use Rattle.std.specs.List.{position, position_from}
+use Rattle.std.specs.Option.{option_map}
+use Rattle.std.proofs.lemmas.Iterator.Adapters.{position_from-zero}
 use Rattle.std.proofs.lemmas.Bool.{true≢false}
 use Rattle.syntax.specs.declared.tree.Name as coded
 use Rattle.syntax.specs.Tokens.{Name}
 use Rattle.syntax.specs.TreeOf.{name_of, declared_of}
 use Rattle.names.specs.Cells.{Entries, name_at, cell_from, cell_of, Undeclared, Looked}
 
--- one more entry, t saying whether it has the name
-pub cell_step : (s : List ℕ) (ns : List coded.Name) (i : ℕ) (d : coded.Name) (x : Name) (t : Bool) → i < length ns → t ≡ bytes_eq x (name_of s (get_or ns i d)) → cell_from (i + 1) (declared_of s (drop i ns)) x ≡ cond t (Some (i + 1)) (cell_from (i + 1 + 1) (declared_of s (drop (i + 1) ns)) x)
-cell_step s ns i d x t h e =
-    at_drop_more (λ l. cell_from (i + 1) (declared_of s l) x) ns i d h ∙ ap (λ b. cond b (Some (i + 1)) (cell_from (i + 1 + 1) (declared_of s (drop (i + 1) ns)) x)) (sym e)
+-- the code counts the names in front of the first that is the same
+pub cell_counts : (s : List ℕ) (x : Name) (ns : List coded.Name) → cell_of (declared_of s ns) x ≡ option_map (λ i. i + 1) (position (λ n. bytes_eq x (name_of s n)) ns)
+cell_counts s x ns = counts_from 0 ns ∙ ap (option_map (λ i. i + 1)) (sym (position_from-zero test ns))
+  where
+    test : coded.Name → Bool
+    test n = bytes_eq x (name_of s n)
+
+    counts_from : (k : ℕ) (ns : List coded.Name) → cell_from (k + 1) (declared_of s ns) x ≡ option_map (λ i. i + 1) (position_from test k ns)
+    counts_from k [] = refl
+    counts_from k (n ∷ ns) = at (test n) (counts_from (k + 1) ns)
+      where
+        at : (t : Bool) → cell_from (k + 1 + 1) (declared_of s ns) x ≡ option_map (λ i. i + 1) (position_from test (k + 1) ns) →
+            cond t (Some (k + 1)) (cell_from (k + 1 + 1) (declared_of s ns) x) ≡ option_map (λ i. i + 1) (cond t (Some k) (position_from test (k + 1) ns))
+        at true h = refl
+        at false h = h
 
 record From (k : ℕ) (es : Entries) (x : Name) (c : ℕ) : Type 0 where
   first : k ≤ c

@@ -25,24 +25,17 @@ both es (u ∷ us) vs = ap (λ o. cond (is_some (cell_of es u.0)) o (Some u.1)) 
     at true o = refl
     at false o = refl
 
-module _ (es us vs ws : Entries) (whole : ws ≡ us ++ vs) (r : Result (Unit {0}) Refusal) where
-  -- all of the first are declared: the rest decides
-  pub go_on : Ok tt ≡ outcome (first_undeclared es us) → r ≡ outcome (first_undeclared es vs) → r ≡ outcome (first_undeclared es ws)
-  go_on e rest = rest ∙ at (first_undeclared es us) e ∙ sym (ap outcome (ap (first_undeclared es) whole ∙ both es us vs))
-    where
-      at : (o : Option ℕ) → Ok tt ≡ outcome o → outcome (first_undeclared es vs) ≡ outcome (either o (first_undeclared es vs))
-      at None e = refl
-      at (Some p) e = absurd (let z : ◌≡◌ {A = ℕ} 0 1 = cc in omega arith)
+-- one check, and another where the first finds nothing
+abbrev pub checked : Result (Unit {0}) Refusal → Result (Unit {0}) Refusal → Result (Unit {0}) Refusal
+checked (Ok x) r = r
+checked (Err e) r = Err e
 
-  -- one of the first is not: that is the answer
-  pub stop : (e : Refusal) → Err e ≡ outcome (first_undeclared es us) → IsErrAnd r (λ f. f ≡ e) → r ≡ outcome (first_undeclared es ws)
-  stop e refused by =
-      let p = err_from_is_err_and r by in
-      p.1 ∙ ap Err p.2 ∙ at (first_undeclared es us) refused ∙ sym (ap outcome (ap (first_undeclared es) whole ∙ both es us vs))
-    where
-      at : (o : Option ℕ) → Err e ≡ outcome o → Err e ≡ outcome (either o (first_undeclared es vs))
-      at None h = absurd (let z : ◌≡◌ {A = ℕ} 0 1 = cc in omega arith)
-      at (Some p) h = h
+pub one_by_one : (es us vs : Entries) → outcome (first_undeclared es (us ++ vs)) ≡ checked (outcome (first_undeclared es us)) (outcome (first_undeclared es vs))
+one_by_one es us vs = ap outcome (both es us vs) ∙ at (first_undeclared es us)
+  where
+    at : (o : Option ℕ) → outcome (either o (first_undeclared es vs)) ≡ checked (outcome o) (outcome (first_undeclared es vs))
+    at None = refl
+    at (Some p) = refl
 
 abbrev FirstIf : Entries → Entries → Option ℕ → Type 0
 FirstIf es us None = AllDeclared es us

@@ -1,35 +1,66 @@
-// The cell of a name, by where it stands in the declaration.
-ghost use Rattle.std.specs.Prelude.{◌≡◌};
+// The names that a source declares, and the cell of each.
+ghost use Rattle.std.specs.Prelude.{◌≡◌, MatchResult};
 ghost use Rattle.std.specs.Str.{bytes_eq};
-ghost use Rattle.syntax.specs.TreeOf.{name_of, declared_of};
+ghost use Rattle.syntax.specs.TreeOf.{name_of};
 ghost use Rattle.names.specs.Cells.{cell_of, Looked};
+ghost use Rattle.names.specs.Declares.{Declaration, Refuses};
+ghost use Rattle.names.specs.Scopes.{entries};
 
+use crate::refusal::Refusal;
 use syntax::tree::Name;
 
-// The bytes of a name, as far as they lie in the source.
-fn spelling<'a>(source: &'a [u8], name: Name) -> &'a [u8]
-    ensures { result.now ≡ name_of source.now name }
-{
-    let start = (name.place as usize).min(source.len());
-    let end = (start + name.length as usize).min(source.len());
-    &source[start..end]
+const MAX_NAMES: usize = 64;
+
+// A source, and where the names that it declares stand in it.
+#[derive(Clone, Copy)]
+pub struct Scope<'a> {
+    pub source: &'a [u8],
+    pub declared: &'a [Name],
 }
 
-fn same(source: &[u8], left: Name, right: Name) -> bool
-    ensures { result ≡ bytes_eq (name_of source.now left) (name_of source.now right) }
-{
-    spelling(source, left) == spelling(source, right)
-}
-
-// The cell of a name: 1 for the first that is declared, and so on.
-pub fn cell(source: &[u8], declared: &[Name], name: Name) -> Option<usize>
-    ensures value { result ≡ cell_of (declared_of source.now declared.now) (name_of source.now name) }
-    ensures looked { Looked (declared_of source.now declared.now) (name_of source.now name) result }
-{
-    for (i, other) in declared.iter().enumerate() {
-        if same(source, name, *other) {
-            return Some(i + 1);
-        }
+impl<'a> Scope<'a> {
+    // The bytes of a name, as far as they lie in the source.
+    fn spelling(&self, name: Name) -> &'a [u8]
+        ensures { result.now ≡ name_of self.now.source.now name }
+    {
+        let start = (name.place as usize).min(self.source.len());
+        let end = (start + name.length as usize).min(self.source.len());
+        &self.source[start..end]
     }
-    None
+
+    fn same(&self, left: Name, right: Name) -> bool
+        ensures { result ≡ bytes_eq (name_of self.now.source.now left) (name_of self.now.source.now right) }
+    {
+        self.spelling(left) == self.spelling(right)
+    }
+
+    // The cell of a name: 1 for the first that is declared, and so on.
+    pub fn cell(&self, name: Name) -> Option<usize>
+        ensures value { result ≡ cell_of (entries self.now) (name_of self.now.source.now name) }
+        ensures looked { Looked (entries self.now) (name_of self.now.source.now name) result }
+    {
+        self.declared
+            .iter()
+            .position(|other| self.same(name, *other))
+            .map(|i| i + 1)
+    }
+
+    // Whether at most 64 names are declared, and each once.
+    pub fn check_declared(&self) -> Result<(), Refusal>
+        ensures { MatchResult result (λ _. Declaration (entries self.now)) (λ e. Refuses (entries self.now) e) }
+    {
+        if let Some(name) = self.declared.get(MAX_NAMES) {
+            return Err(Refusal::TooMany(name.place));
+        }
+        for (i, name) in self.declared.iter().enumerate() {
+            let earlier = Scope {
+                declared: &self.declared[..i],
+                ..*self
+            };
+            if earlier.cell(*name).is_some() {
+                return Err(Refusal::Repeated(name.place));
+            }
+        }
+        Ok(())
+    }
 }

@@ -2,7 +2,7 @@
 ghost use Rattle.std.specs.Prelude.{◌≡◌};
 ghost use Rattle.names.specs.Declares.{number_of, place_of};
 
-#[derive(Clone, Copy)]
+#[derive(Clone, Copy, PartialEq, Eq, Debug)]
 pub enum Refusal {
     // the 65th declared name
     TooMany(u32),
@@ -28,9 +28,8 @@ impl Refusal {
         ensures { result ≡ place_of self.now }
     {
         match self {
-            Refusal::TooMany(place) => *place,
-            Refusal::Repeated(place) => *place,
-            Refusal::Undeclared(place) => *place,
+            Refusal::TooMany(place) | Refusal::Repeated(place) | Refusal::Undeclared(place) =>
+                *place,
         }
     }
 }

@@ -1,125 +1,115 @@
 // The names used in statements, looked up in the order of the source.
+#![tactic(auto, using(crate::proofs::Sequences::one_by_one))]
+
 ghost use Rattle.std.specs.Prelude.{◌≡◌, [], ◌∷◌};
-ghost use Rattle.syntax.specs.TreeOf.{name_of, declared_of, factor_of, term_of, expression_of, condition_of, statement_of, statements_of};
+ghost use Rattle.syntax.specs.TreeOf.{name_of, factor_of, term_of, expression_of, condition_of, statement_of, statements_of};
+ghost use Rattle.names.specs.Scopes.{entries};
 ghost use Rattle.names.specs.Uses.{uses_in_factor, uses_in_term, uses_in_expression, uses_in_condition, uses_in_statement, uses_in_statements, first_undeclared, outcome};
 
-use crate::cells::cell;
+use crate::cells::Scope;
 use crate::refusal::Refusal;
 use syntax::tree::{Condition, Expression, Factor, Name, Statement, Statements, Term};
 
-fn check_name(source: &[u8], declared: &[Name], name: Name) -> Result<(), Refusal>
-    ensures { result ≡ outcome (first_undeclared (declared_of source.now declared.now) ((name_of source.now name, name.place) ∷ [])) }
-{
-    match cell(source, declared, name) {
-        Some(_) => Ok(()),
-        None => Err(Refusal::Undeclared(name.place)),
+impl Scope<'_> {
+    fn check_name(&self, name: Name) -> Result<(), Refusal>
+        ensures { result ≡ outcome (first_undeclared (entries self.now) ((name_of self.now.source.now name, name.place) ∷ [])) }
+    {
+        self.cell(name).ok_or(Refusal::Undeclared(name.place))?;
+        Ok(())
     }
-}
 
-#[cycle(expression_uses)]
-fn check_factor(source: &[u8], declared: &[Name], factor: &Factor) -> Result<(), Refusal>
-    ensures { result ≡ outcome (first_undeclared (declared_of source.now declared.now) (uses_in_factor (factor_of source.now factor.now))) }
-{
-    match factor {
-        Factor::Variable(name) => check_name(source, declared, *name),
-        Factor::Number { .. } => Ok(()),
-        Factor::Parenthesized(expression) => check_expression(source, declared, expression),
-    }
-}
-
-#[cycle(expression_uses)]
-fn check_term(source: &[u8], declared: &[Name], term: &Term) -> Result<(), Refusal>
-    ensures { result ≡ outcome (first_undeclared (declared_of source.now declared.now) (uses_in_term (term_of source.now term.now))) }
-{
-    match term {
-        Term::One(factor) => check_factor(source, declared, factor),
-        Term::Product { left, right, .. } => {
-            check_term(source, declared, left)?;
-            check_factor(source, declared, right)
+    #[cycle(expression_uses)]
+    fn check_factor(&self, factor: &Factor) -> Result<(), Refusal>
+        ensures { result ≡ outcome (first_undeclared (entries self.now) (uses_in_factor (factor_of self.now.source.now factor.now))) }
+    {
+        match factor {
+            Factor::Variable(name) => self.check_name(*name),
+            Factor::Number { .. } => Ok(()),
+            Factor::Parenthesized(expression) => self.check_expression(expression),
         }
     }
-}
 
-#[cycle(expression_uses)]
-fn check_expression(
-    source: &[u8],
-    declared: &[Name],
-    expression: &Expression,
-) -> Result<(), Refusal>
-    ensures { result ≡ outcome (first_undeclared (declared_of source.now declared.now) (uses_in_expression (expression_of source.now expression.now))) }
-{
-    match expression {
-        Expression::First(term) => check_term(source, declared, term),
-        Expression::Negative { term, .. } => check_term(source, declared, term),
-        Expression::Sum { left, right, .. } => {
-            check_expression(source, declared, left)?;
-            check_term(source, declared, right)
+    #[cycle(expression_uses)]
+    fn check_term(&self, term: &Term) -> Result<(), Refusal>
+        ensures { result ≡ outcome (first_undeclared (entries self.now) (uses_in_term (term_of self.now.source.now term.now))) }
+    {
+        match term {
+            Term::One(factor) => self.check_factor(factor),
+            Term::Product { left, right, .. } => {
+                self.check_term(left)?;
+                self.check_factor(right)
+            }
         }
     }
-}
 
-fn check_condition(source: &[u8], declared: &[Name], condition: &Condition) -> Result<(), Refusal>
-    ensures { result ≡ outcome (first_undeclared (declared_of source.now declared.now) (uses_in_condition (condition_of source.now condition.now))) }
-{
-    check_expression(source, declared, &condition.left)?;
-    check_expression(source, declared, &condition.right)
-}
-
-#[cycle(statement_uses)]
-fn check_statement(source: &[u8], declared: &[Name], statement: &Statement) -> Result<(), Refusal>
-    ensures { result ≡ outcome (first_undeclared (declared_of source.now declared.now) (uses_in_statement (statement_of source.now statement.now))) }
-{
-    match statement {
-        Statement::Assign(name, value) => {
-            check_name(source, declared, *name)?;
-            check_expression(source, declared, value)
+    #[cycle(expression_uses)]
+    fn check_expression(&self, expression: &Expression) -> Result<(), Refusal>
+        ensures { result ≡ outcome (first_undeclared (entries self.now) (uses_in_expression (expression_of self.now.source.now expression.now))) }
+    {
+        match expression {
+            Expression::First(term) | Expression::Negative { term, .. } => self.check_term(term),
+            Expression::Sum { left, right, .. } => {
+                self.check_expression(left)?;
+                self.check_term(right)
+            }
         }
-        Statement::Scan(name) => check_name(source, declared, *name),
-        Statement::Print(name) => check_name(source, declared, *name),
-        Statement::If {
-            condition,
-            body,
-            ..
-        } => {
-            check_condition(source, declared, condition)?;
-            check_statement(source, declared, body)
-        }
-        Statement::IfElse {
-            condition,
-            body,
-            else_body,
-            ..
-        } => {
-            check_condition(source, declared, condition)?;
-            check_statement(source, declared, body)?;
-            check_statement(source, declared, else_body)
-        }
-        Statement::While {
-            condition,
-            body,
-            ..
-        } => {
-            check_condition(source, declared, condition)?;
-            check_statement(source, declared, body)
-        }
-        Statement::Block(statements) => check_statements(source, declared, statements),
     }
-}
 
-// The first name of the statements that is not declared, if there is one.
-#[cycle(statement_uses)]
-pub fn check_statements(
-    source: &[u8],
-    declared: &[Name],
-    statements: &Statements,
-) -> Result<(), Refusal>
-    ensures { result ≡ outcome (first_undeclared (declared_of source.now declared.now) (uses_in_statements (statements_of source.now statements.now))) }
-{
-    match statements {
-        Statements::Nothing => Ok(()),
-        Statements::Then(first, rest) => {
-            check_statement(source, declared, first)?;
-            check_statements(source, declared, rest)
+    fn check_condition(&self, condition: &Condition) -> Result<(), Refusal>
+        ensures { result ≡ outcome (first_undeclared (entries self.now) (uses_in_condition (condition_of self.now.source.now condition.now))) }
+    {
+        self.check_expression(&condition.left)?;
+        self.check_expression(&condition.right)
+    }
+
+    #[cycle(statement_uses)]
+    fn check_statement(&self, statement: &Statement) -> Result<(), Refusal>
+        ensures { result ≡ outcome (first_undeclared (entries self.now) (uses_in_statement (statement_of self.now.source.now statement.now))) }
+    {
+        match statement {
+            Statement::Assign(name, value) => {
+                self.check_name(*name)?;
+                self.check_expression(value)
+            }
+            Statement::Scan(name) | Statement::Print(name) => self.check_name(*name),
+            Statement::If {
+                condition,
+                body,
+                ..
+            }
+            | Statement::While {
+                condition,
+                body,
+                ..
+            } => {
+                self.check_condition(condition)?;
+                self.check_statement(body)
+            }
+            Statement::IfElse {
+                condition,
+                body,
+                else_body,
+                ..
+            } => {
+                self.check_condition(condition)?;
+                self.check_statement(body)?;
+                self.check_statement(else_body)
+            }
+            Statement::Block(statements) => self.check_statements(statements),
+        }
+    }
+
+    // The first name of the statements that is not declared, if there is one.
+    #[cycle(statement_uses)]
+    pub fn check_statements(&self, statements: &Statements) -> Result<(), Refusal>
+        ensures { result ≡ outcome (first_undeclared (entries self.now) (uses_in_statements (statements_of self.now.source.now statements.now))) }
+    {
+        match statements {
+            Statements::Nothing => Ok(()),
+            Statements::Then(first, rest) => {
+                self.check_statement(first)?;
+                self.check_statements(rest)
+            }
         }
     }
 }

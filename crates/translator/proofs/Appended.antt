@@ -1,19 +1,10 @@
 -- Code that grows at its end, piece by piece.
 use Rattle.std.proofs.Common.{◌≡◌, ℕ, ◌+◌, ◌<◌, ◌≤◌, List, [], ◌∷◌, ◌++◌, map, length, get_or, take, sym, ap, ◌∙◌, append_assoc}
 use Rattle.std.proofs.lemmas.List.{map_more, take_all}
-use Rattle.code.specs.declared.Instruction.{Instruction}
-use Rattle.translator.specs.Linear.{Code}
 
 -- two pieces
 pub twice : {A : Type 0} (old a b : List A) {v₁ v₂ : List A} → v₁ ≡ old ++ a → v₂ ≡ v₁ ++ b → v₂ ≡ old ++ (a ++ b)
 twice old a b e f = f ∙ ap (λ l. l ++ b) e ∙ append_assoc old a b
-
--- two operands and their operator
-pub joined : (old a b : Code) (i j : Instruction) (p : ℕ) {v₁ v₂ v₃ : Code} → v₁ ≡ old ++ a → v₂ ≡ v₁ ++ b → v₃ ≡ v₂ ++ ((i, p) ∷ []) → i ≡ j →
-    v₃ ≡ old ++ (a ++ (b ++ ((j, p) ∷ [])))
-joined old a b i j p e f g h =
-    twice old (a ++ b) ((i, p) ∷ []) (twice old a b e f) g
-    ∙ ap (λ l. old ++ l) (append_assoc a b ((i, p) ∷ []) ∙ ap (λ k. a ++ (b ++ ((k, p) ∷ []))) h)
 
 -- a list that is made of another, one more of it and all of it
 pub mapped_more : {X : Type 0} (f : X → ℕ) (xs : List X) (i : ℕ) (d : X) (y : ℕ) {v₁ v₂ : List ℕ} → i < length xs → v₁ ≡ map f (take i xs) → v₂ ≡ v₁ ++ (y ∷ []) → y ≡ f (get_or xs i d) →

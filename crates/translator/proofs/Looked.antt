@@ -1,10 +1,8 @@
 -- The symbol table and the look-up of declared names agree.
-use Rattle.std.proofs.Common.{◌≡◌, ℕ, zero, suc, ◌+◌, ◌<◌, ◌≤◌, true, false, cond, List, [], ◌∷◌, length, Some, unwrap_or, sym, refl, ap, ◌∙◌, arith}
+use Rattle.std.proofs.Common.{◌≡◌, ℕ, zero, suc, ◌+◌, ◌<◌, ◌≤◌, true, false, cond, [], ◌∷◌, length, Some, unwrap_or, sym, refl, ap, ◌∙◌, arith}
 use Rattle.std.specs.Str.{bytes_eq}
 use Rattle.std.proofs.lemmas.Slice.Eq.{bytes_eq-Decides}
 use Rattle.syntax.specs.Tokens.{Name}
-use Rattle.syntax.specs.declared.tree.Name as coded
-use Rattle.syntax.specs.TreeOf.{declared_of}
 use Rattle.names.specs.Cells.{Entries, name_at, cell_from, cell_of}
 use Rattle.names.specs.Uses.{Declared}
 use Rattle.translator.specs.Published.{symbols, mksymtab}
@@ -19,10 +17,6 @@ symbols_from k (e ∷ es) x =
 
 pub mksymtab_is : (es : Entries) (x : Name) → mksymtab es x ≡ unwrap_or (cell_of es x) 0
 mksymtab_is es x = symbols_from 1 es x
-
-pub length_declared_of : (source : List ℕ) (ns : List coded.Name) → length (declared_of source ns) ≡ length ns
-length_declared_of source [] = refl
-length_declared_of source (n ∷ ns) = ap suc (length_declared_of source ns)
 
 -- a declared name has a cell, and no cell is behind the last
 pub declared_cell : (k : ℕ) (es : Entries) (x : Name) → Declared es x → suc k ≤ symbols (suc k) es x

@@ -1,9 +1,15 @@
 -- A jump that is put with no target and filled in once the target is known.
-use Rattle.std.proofs.Common.{◌≡◌, ℕ, suc, ◌+◌, ◌<◌, List, [], ◌∷◌, ◌++◌, length, set, sym, refl, ap, ◌∙◌, append_assoc, arith, length-append}
+use Rattle.std.proofs.Common.{◌≡◌, ℕ, suc, ◌+◌, List, [], ◌∷◌, ◌++◌, length, set, sym, refl, ap, ◌∙◌, append_assoc, arith, length-append}
 use Rattle.std.proofs.lemmas.List.{set_at}
 use Rattle.code.specs.declared.Instruction.{Instruction}
 use Rattle.code.specs.declared.Instruction.TheVariants.{Jump, JumpIfZero}
+use Rattle.syntax.specs.declared.tree.Condition.{Condition}
+use Rattle.syntax.specs.declared.tree.Statement.{Statement}
+use Rattle.syntax.specs.declared.tree.Statements.{Statements}
 use Rattle.translator.specs.Linear.{Code, past}
+use Rattle.translator.specs.Emitted.{condition_code, statement_code, statements_code, if_code, if_else_code, while_code}
+use Rattle.translator.specs.Emitters.{Emits}
+use Rattle.translator.specs.declared.emitter.Emitter.{Emitter}
 use Rattle.translator.proofs.Appended.{twice}
 
 pub past_is : {A : Type 0} (a : ℕ) (xs : List A) → past a xs ≡ a + length xs
@@ -11,7 +17,7 @@ past_is a [] = omega arith
 past_is a (x ∷ xs) = let h : past (suc a) xs ≡ suc a + length xs = past_is (suc a) xs in omega arith
 
 -- a piece behind old, which stands at the address after it
-pub followed : (old a : Code) (B : ℕ → Code) {v₁ v₂ : Code} → v₁ ≡ old ++ a → v₂ ≡ v₁ ++ B (suc (length v₁)) →
+followed : (old a : Code) (B : ℕ → Code) {v₁ v₂ : Code} → v₁ ≡ old ++ a → v₂ ≡ v₁ ++ B (suc (length v₁)) →
     v₂ ≡ old ++ (a ++ B (past (suc (length old)) a))
 followed old a B {v₁} e f =
     let at : suc (length v₁) ≡ past (suc (length old)) a = (let p : past (suc (length old)) a ≡ suc (length old) + length a = past_is (suc (length old)) a in omega (arith, ap length e ∙ length-append old a)) in
@@ -21,9 +27,6 @@ followed old a B {v₁} e f =
 module _ (gap : Instruction × ℕ) (old c b : Code) {v₁ v₂ v₃ : Code} (n : ℕ) (e₁ : v₁ ≡ old ++ c) (en : n ≡ length v₁) (e₂ : v₂ ≡ v₁ ++ (gap ∷ [])) (e₃ : v₃ ≡ v₂ ++ b) where
   flat : v₃ ≡ (old ++ c) ++ (gap ∷ b)
   flat = e₃ ∙ ap (λ l. l ++ b) (e₂ ∙ ap (λ l. l ++ (gap ∷ [])) e₁) ∙ append_assoc (old ++ c) (gap ∷ []) b
-
-  pub within : n < length v₃
-  within = omega (arith, ap length flat ∙ length-append (old ++ c) (gap ∷ b), en, ap length e₁)
 
   filled : (full : Instruction × ℕ) → set v₃ n full ≡ old ++ (c ++ (full ∷ b))
   filled full = ap (λ l. set l n full) flat ∙ set_at (old ++ c) gap b full n (sym (en ∙ ap length e₁)) ∙ append_assoc old c (full ∷ b)
@@ -59,7 +62,7 @@ module _ (p : ℕ) (old c : Code) (B : ℕ → Code) {v₁ v₂ v₃ : Code} (n 
   there : v₃ ≡ v₂ ++ body
   there = e₃ ∙ ap (λ k. v₂ ++ B k) (behind gap old c e₁ e₂)
 
-  pub if_made : (t : ℕ) {v₄ : Code} → t ≡ suc (length v₃) → v₄ ≡ set v₃ n (JumpIfZero t, p) →
+  if_made : (t : ℕ) {v₄ : Code} → t ≡ suc (length v₃) → v₄ ≡ set v₃ n (JumpIfZero t, p) →
       v₄ ≡ old ++ (c ++ ((JumpIfZero (past a₁ body), p) ∷ body))
   if_made t et e₄ =
       e₄ ∙ filled gap old c body n e₁ en e₂ there (JumpIfZero t, p)
@@ -70,16 +73,13 @@ module _ (p : ℕ) (old c : Code) (B : ℕ → Code) {v₁ v₂ v₃ : Code} (n 
     all : v₄ ≡ v₂ ++ (body ++ (x ∷ []))
     all = twice v₂ body (x ∷ []) there e₄
 
-    pub branch_within : n < length v₄
-    branch_within = within gap old c (body ++ (x ∷ [])) n e₁ en e₂ all
-
     branched : (u : ℕ) {v₅ : Code} → u ≡ suc (length v₄) → v₅ ≡ set v₄ n (JumpIfZero u, p) →
         v₅ ≡ old ++ (c ++ ((JumpIfZero (suc (past a₁ body)), p) ∷ (body ++ (x ∷ []))))
     branched u eu e₅ =
         e₅ ∙ filled gap old c (body ++ (x ∷ [])) n e₁ en e₂ all (JumpIfZero u, p)
         ∙ ap (λ k. old ++ (c ++ ((JumpIfZero k, p) ∷ (body ++ (x ∷ []))))) (eu ∙ end gap old c (body ++ (x ∷ [])) n e₁ en e₂ all ∙ past-++ a₁ body (x ∷ []))
 
-  pub while_made : (s t : ℕ) {v₄ v₅ : Code} → s ≡ suc (length old) → v₄ ≡ v₃ ++ ((Jump s, p) ∷ []) → t ≡ suc (length v₄) → v₅ ≡ set v₄ n (JumpIfZero t, p) →
+  while_made : (s t : ℕ) {v₄ v₅ : Code} → s ≡ suc (length old) → v₄ ≡ v₃ ++ ((Jump s, p) ∷ []) → t ≡ suc (length v₄) → v₅ ≡ set v₄ n (JumpIfZero t, p) →
       v₅ ≡ old ++ (c ++ ((JumpIfZero (suc (past a₁ body)), p) ∷ (body ++ ((Jump (suc (length old)), p) ∷ []))))
   while_made s t es e₄ et e₅ =
       branched (Jump s, p) e₄ t et e₅ ∙ ap (λ k. old ++ (c ++ ((JumpIfZero (suc (past a₁ body)), p) ∷ (body ++ ((Jump k, p) ∷ []))))) es
@@ -114,12 +114,62 @@ module _ (p : ℕ) (old c : Code) (B : ℕ → Code) {v₁ v₂ v₃ : Code} (n 
     placed : v₆ ≡ v₅ ++ other
     placed = e₆ ∙ ap (λ k. v₅ ++ D k) (behind skip old mid refl made ∙ ap suc after)
 
-    pub skip_within : m < length v₆
-    skip_within = within skip old mid other m refl spot made placed
-
-    pub else_made : (t : ℕ) {v₇ : Code} → t ≡ suc (length v₆) → v₇ ≡ set v₆ m (Jump t, q) →
+    else_made : (t : ℕ) {v₇ : Code} → t ≡ suc (length v₆) → v₇ ≡ set v₆ m (Jump t, q) →
         v₇ ≡ old ++ (c ++ ((JumpIfZero second, p) ∷ (body ++ ((Jump (past second other), q) ∷ other))))
     else_made t et e₇ =
         e₇ ∙ filled skip old mid other m refl spot made placed (Jump t, q)
         ∙ ap (λ k. old ++ (mid ++ ((Jump k, q) ∷ other))) (et ∙ end skip old mid other m refl spot made placed ∙ ap (λ k. past (suc k) other) after)
         ∙ ap (λ l. old ++ l) (append_assoc c ((JumpIfZero second, p) ∷ body) ((Jump (past second other), q) ∷ other))
+
+-- the same of emitters, which keep their scope
+module _ (p : ℕ) (c : Condition) (x : Statement) {m₀ m₁ m₂ m₃ : Emitter} (n : ℕ) (tested : Emits m₀ (condition_code m₀.scope c) m₁) (en : n ≡ length m₁.code.items) (gapped : Emits m₁ ((JumpIfZero 0, p) ∷ []) m₂) (made : Emits m₂ (statement_code m₂.scope x (suc (length m₂.code.items))) m₃) where
+  abbrev condition : Code
+  condition = condition_code m₀.scope c
+
+  abbrev statement : ℕ → Code
+  statement = statement_code m₀.scope x
+
+  kept : m₂.scope ≡ m₀.scope
+  kept = gapped.scope ∙ tested.scope
+
+  with_body : m₃.code.items ≡ m₂.code.items ++ statement (suc (length m₂.code.items))
+  with_body = made.code ∙ ap (λ s. m₂.code.items ++ statement_code s x (suc (length m₂.code.items))) kept
+
+  pub emits_if : (t : ℕ) {m₄ : Emitter} → t ≡ suc (length m₃.code.items) → m₄.scope ≡ m₃.scope → m₄.code.items ≡ set m₃.code.items n (JumpIfZero t, p) →
+      Emits m₀ (if_code m₀.scope p c x (suc (length m₀.code.items))) m₄
+  emits_if t et scope patched = record {
+    scope = scope ∙ made.scope ∙ kept;
+    code = if_made p m₀.code.items condition statement n tested.code en gapped.code with_body t et patched;
+  }
+
+  pub emits_while : (s t : ℕ) {m₄ m₅ : Emitter} → s ≡ suc (length m₀.code.items) → Emits m₃ ((Jump s, p) ∷ []) m₄ → t ≡ suc (length m₄.code.items) → m₅.scope ≡ m₄.scope → m₅.code.items ≡ set m₄.code.items n (JumpIfZero t, p) →
+      Emits m₀ (while_code m₀.scope p c x (suc (length m₀.code.items))) m₅
+  emits_while s t es back et scope patched = record {
+    scope = scope ∙ back.scope ∙ made.scope ∙ kept;
+    code = while_made p m₀.code.items condition statement n tested.code en gapped.code with_body s t es back.code et patched;
+  }
+
+  pub emits_if_else : (q : ℕ) (y : Statement) (m t u : ℕ) {m₄ m₅ m₆ m₇ : Emitter} → m ≡ length m₃.code.items → Emits m₃ ((Jump 0, q) ∷ []) m₄ →
+      u ≡ suc (length m₄.code.items) → m₅.scope ≡ m₄.scope → m₅.code.items ≡ set m₄.code.items n (JumpIfZero u, p) →
+      Emits m₅ (statement_code m₅.scope y (suc (length m₅.code.items))) m₆ →
+      t ≡ suc (length m₆.code.items) → m₇.scope ≡ m₆.scope → m₇.code.items ≡ set m₆.code.items m (Jump t, q) →
+      Emits m₀ (if_else_code m₀.scope p c x q y (suc (length m₀.code.items))) m₇
+  emits_if_else q y m t u {m₄} {m₅} em over eu same branched other et scope patched = record {
+    scope = scope ∙ other.scope ∙ until;
+    code =
+        else_made p m₀.code.items condition statement n tested.code en gapped.code with_body q (statement_code m₀.scope y) m u em over.code eu branched
+        (other.code ∙ ap (λ s. m₅.code.items ++ statement_code s y (suc (length m₅.code.items))) until) t et patched;
+  }
+    where
+      until : m₅.scope ≡ m₀.scope
+      until = same ∙ over.scope ∙ made.scope ∙ kept
+
+-- statements one after another
+pub emits_then : (x : Statement) (xs : Statements) {m₀ m₁ m₂ : Emitter} → Emits m₀ (statement_code m₀.scope x (suc (length m₀.code.items))) m₁ → Emits m₁ (statements_code m₁.scope xs (suc (length m₁.code.items))) m₂ →
+    Emits m₀ (let a : Code = statement_code m₀.scope x (suc (length m₀.code.items)) in a ++ statements_code m₀.scope xs (past (suc (length m₀.code.items)) a)) m₂
+emits_then x xs {m₀} {m₁} first rest = record {
+  scope = rest.scope ∙ first.scope;
+  code =
+      followed m₀.code.items (statement_code m₀.scope x (suc (length m₀.code.items))) (statements_code m₀.scope xs) first.code
+      (rest.code ∙ ap (λ s. m₁.code.items ++ statements_code s xs (suc (length m₁.code.items))) first.scope);
+}

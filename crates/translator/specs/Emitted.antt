@@ -1,4 +1,4 @@
--- The code of the tree that the code has, its names looked up in a symbol table.
+-- The code of the tree that the code has, its names looked up in a scope.
 --   factor_code, term_code, expression_code, condition_code  the code of a piece
 --   statement_code, statements_code                          the code of statements that stand at an address
 --   if_code, if_else_code, while_code                        the same of a statement by its parts
@@ -12,30 +12,30 @@ use Rattle.syntax.specs.declared.tree.Statements.{Statements}
 use Rattle.syntax.specs.Trees as Tree
 use Rattle.syntax.specs.Trees.{when, either, while}
 use Rattle.syntax.specs.TreeOf.{factor_of, term_of, expression_of, condition_of, statement_of, statements_of}
-use Rattle.translator.specs.declared.symbols.Symbols.{Symbols}
-use Rattle.translator.specs.Symbols.{table_of}
+use Rattle.names.specs.declared.cells.Scope.{Scope}
+use Rattle.translator.specs.Emitters.{table_of}
 use Rattle.translator.specs.Cells.{cells_of_factor, cells_of_term, cells_of_expression, cells_of_condition, cells_of_statement, cells_of_statements}
 use Rattle.translator.specs.Linear.{Code, code_of_factor, code_of_term, code_of_expression, code_of_condition, code_of_statement, code_of_statements}
 
-abbrev pub factor_code : Symbols → Factor → Code
+abbrev pub factor_code : Scope → Factor → Code
 factor_code s f = code_of_factor (cells_of_factor (table_of s) (factor_of s.source.now f))
 
-abbrev pub term_code : Symbols → Term → Code
+abbrev pub term_code : Scope → Term → Code
 term_code s t = code_of_term (cells_of_term (table_of s) (term_of s.source.now t))
 
-abbrev pub expression_code : Symbols → Expression → Code
+abbrev pub expression_code : Scope → Expression → Code
 expression_code s e = code_of_expression (cells_of_expression (table_of s) (expression_of s.source.now e))
 
-abbrev pub condition_code : Symbols → Condition → Code
+abbrev pub condition_code : Scope → Condition → Code
 condition_code s c = code_of_condition (cells_of_condition (table_of s) (condition_of s.source.now c))
 
-abbrev pub statement_code : Symbols → Statement → ℕ → Code
+abbrev pub statement_code : Scope → Statement → ℕ → Code
 statement_code s x a = code_of_statement (cells_of_statement (table_of s) (statement_of s.source.now x)) a
 
-abbrev pub statements_code : Symbols → Statements → ℕ → Code
+abbrev pub statements_code : Scope → Statements → ℕ → Code
 statements_code s xs a = code_of_statements (cells_of_statements (table_of s) (statements_of s.source.now xs)) a
 
-module _ (s : Symbols) where
+module _ (s : Scope) where
   abbrev cells : Statement → Tree.Statement ℕ
   cells x = cells_of_statement (table_of s) (statement_of s.source.now x)
 

@@ -1,7 +1,7 @@
 pub mod Cells
 pub mod Linear
 pub mod Published
-pub mod Symbols
+pub mod Emitters
 pub mod Emitted
 pub mod Written
 pub mod Examples

@@ -1,4 +1,5 @@
 -- What translating leaves in the two buffers, and the last two questions.
+--   WordOf     the word of an instruction that has one
 --   words_of   the words of some code
 --   Fits       every instruction of some code has a word
 --   Written    a buffer holds these words, and behind them what it held before
@@ -7,11 +8,16 @@
 --   Outcome    one of the two; where the code is refused both buffers stay as they were
 use Rattle.std.specs.Prelude.{◌≡◌, ℕ, ◌<◌, ◌≤◌, ◌⊎◌, List, ◌++◌, map, length, drop, Ok, Err, Result, slice_index}
 use Rattle.std.specs.List.{AllByRecursion}
+use Rattle.code.specs.declared.Instruction.{Instruction}
 use Rattle.code.specs.Words.{word_of, InRange}
 use Rattle.translator.specs.declared.refusal.Refusal.{Refusal}
 use Rattle.translator.specs.declared.refusal.Refusal.TheVariants.{Naming, TooMuchCode, SmallBuffer, NoMemory}
 use Rattle.translator.specs.Linear as linear
 use Rattle.translator.specs.Linear.{Code}
+
+pub record WordOf (i : Instruction) (word : ℕ) : Type 0 where
+  pub range : InRange i
+  pub is : word ≡ word_of i
 
 abbrev pub words_of : Code → List ℕ
 words_of c = map (λ x. word_of x.0) c

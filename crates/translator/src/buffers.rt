@@ -3,7 +3,7 @@ ghost use Rattle.std.specs.Prelude.{◌≡◌, ◌≤◌, length};
 ghost use Rattle.translator.specs.Written.{Written, Outcome};
 
 use crate::emit::{places_of, words_of};
-use crate::expressions::Placed;
+use crate::emitter::Placed;
 use crate::refusal::Refusal;
 use std::alloc::Global;
 
@@ -17,7 +17,7 @@ fn fill(buffer: &mut [u32], words: &[u32])
     buffer[0..count].copy_from_slice(words);
 }
 
-// Answers the length of the code.
+// Answers the length of the code. The buffers are lent, since callers translate into memory that is theirs already.
 pub fn store(
     heap: Global,
     emitted: &[Placed],
@@ -26,10 +26,10 @@ pub fn store(
 ) -> Result<usize, Refusal>
     ensures { Outcome emitted.now code.old places.old result code.new places.new }
 {
-    let length = emitted.len();
-    if length > MAX_CODE {
-        return Err(Refusal::TooMuchCode(emitted[MAX_CODE].1));
+    if let Some((_, place)) = emitted.get(MAX_CODE) {
+        return Err(Refusal::TooMuchCode(*place));
     }
+    let length = emitted.len();
     if code.len() < length || places.len() < length {
         return Err(Refusal::SmallBuffer);
     }

@@ -1,35 +1,16 @@
 // The code of expressions: the three levels call for one another through parentheses.
-ghost use Rattle.std.specs.Prelude.{◌≡◌, [], ◌∷◌, ◌++◌, pos, IfOk, OnOk};
+ghost use Rattle.std.specs.Prelude.{◌≡◌, pos, IfOk, OnOk};
 ghost use Rattle.translator.specs.Linear.{code_of_sum, code_of_product, code_of_relation};
 ghost use Rattle.translator.specs.Emitted.{factor_code, term_code, expression_code, condition_code};
+ghost use Rattle.translator.specs.Emitters.{Emits};
 
-use crate::symbols::Symbols;
+use crate::emitter::Emitter;
+use crate::failure::Failure;
 use code::Instruction;
-use std::alloc::AllocError;
 use syntax::token::{Additive, Multiplicative, Relation};
 use syntax::tree::{Condition, Expression, Factor, Term};
 
-// An instruction, and the place of the token that it stands for.
-pub type Placed = (Instruction, u32);
-
-pub fn put(code: &mut Vec<Placed>, instruction: Instruction, place: u32) -> Result<(), AllocError>
-    ensures { OnOk result (code.new.items ≡ code.old.items ++ ((instruction, place) ∷ [])) }
-{
-    code.push((instruction, place))?;
-    Ok(())
-}
-
-// A number as an operand of LIT, which has 31 bits.
-fn literal(value: u32) -> Result<i32, AllocError>
-    ensures { IfOk result (λ z. z ≡ pos value) }
-{
-    if value < 0x4000_0000 {
-        Ok(value as i32)
-    } else {
-        Err(AllocError)
-    }
-}
-
+// Three functions and no trait: nothing is generic over operators, and its three impls would hold these same matches.
 fn sum(operator: Additive) -> Instruction
     ensures { result ≡ code_of_sum operator }
 {
@@ -62,84 +43,68 @@ fn comparison(relation: Relation) -> Instruction
     }
 }
 
-#[cycle(expression_emitters)]
-fn emit_factor(
-    symbols: Symbols<'_>,
-    factor: &Factor,
-    code: &mut Vec<Placed>,
-) -> Result<(), AllocError>
-    ensures { OnOk result (code.new.items ≡ code.old.items ++ factor_code symbols.entry factor.now) }
-{
-    match factor {
-        Factor::Variable(name) => put(code, Instruction::Load(symbols.cell(*name)), name.place),
-        Factor::Number { value, place } => put(
-            code,
-            Instruction::Literal(literal(*value)?),
-            *place,
-        ),
-        Factor::Parenthesized(inner) => emit_expression(symbols, inner, code),
-    }
-}
-
-#[cycle(expression_emitters)]
-fn emit_term(symbols: Symbols<'_>, term: &Term, code: &mut Vec<Placed>) -> Result<(), AllocError>
-    ensures { OnOk result (code.new.items ≡ code.old.items ++ term_code symbols.entry term.now) }
-{
-    match term {
-        Term::One(factor) => emit_factor(symbols, factor, code),
-        Term::Product {
-            left,
-            operator,
-            place,
-            right,
-        } => {
-            emit_term(symbols, left, code)?;
-            emit_factor(symbols, right, code)?;
-            put(code, product(*operator), *place)?;
-            Ok(())
+impl Emitter<'_> {
+    #[cycle(expression_emitters)]
+    fn factor(&mut self, factor: &Factor) -> Result<(), Failure>
+        ensures { OnOk result (Emits self.old (factor_code self.old.scope factor.now) self.new) }
+    {
+        match factor {
+            Factor::Variable(name) => self.put(Instruction::Load(self.cell(*name)), name.place),
+            Factor::Number { value, place } => {
+                self.put(Instruction::Literal(i32::try_from(*value)?), *place)
+            }
+            Factor::Parenthesized(inner) => self.expression(inner),
         }
     }
-}
 
-#[cycle(expression_emitters)]
-pub fn emit_expression(
-    symbols: Symbols<'_>,
-    expression: &Expression,
-    code: &mut Vec<Placed>,
-) -> Result<(), AllocError>
-    ensures { OnOk result (code.new.items ≡ code.old.items ++ expression_code symbols.entry expression.now) }
-{
-    match expression {
-        Expression::First(term) => emit_term(symbols, term, code),
-        Expression::Negative { place, term } => {
-            emit_term(symbols, term, code)?;
-            put(code, Instruction::Literal(-1), *place)?;
-            put(code, Instruction::Multiply, *place)?;
-            Ok(())
-        }
-        Expression::Sum {
-            left,
-            operator,
-            place,
-            right,
-        } => {
-            emit_expression(symbols, left, code)?;
-            emit_term(symbols, right, code)?;
-            put(code, sum(*operator), *place)?;
-            Ok(())
+    #[cycle(expression_emitters)]
+    fn term(&mut self, term: &Term) -> Result<(), Failure>
+        ensures { OnOk result (Emits self.old (term_code self.old.scope term.now) self.new) }
+    {
+        match term {
+            Term::One(factor) => self.factor(factor),
+            Term::Product {
+                left,
+                operator,
+                place,
+                right,
+            } => {
+                self.term(left)?;
+                self.factor(right)?;
+                self.put(product(*operator), *place)
+            }
         }
     }
-}
 
-pub fn emit_condition(
-    symbols: Symbols<'_>,
-    condition: &Condition,
-    code: &mut Vec<Placed>,
-) -> Result<(), AllocError>
-    ensures { OnOk result (code.new.items ≡ code.old.items ++ condition_code symbols.entry condition.now) }
-{
-    emit_expression(symbols, &condition.left, code)?;
-    emit_expression(symbols, &condition.right, code)?;
-    put(code, comparison(condition.relation), condition.place)?;
-    Ok(())
+    #[cycle(expression_emitters)]
+    pub fn expression(&mut self, expression: &Expression) -> Result<(), Failure>
+        ensures { OnOk result (Emits self.old (expression_code self.old.scope expression.now) self.new) }
+    {
+        match expression {
+            Expression::First(term) => self.term(term),
+            Expression::Negative { place, term } => {
+                self.term(term)?;
+                self.put(Instruction::Literal(-1), *place)?;
+                self.put(Instruction::Multiply, *place)
+            }
+            Expression::Sum {
+                left,
+                operator,
+                place,
+                right,
+            } => {
+                self.expression(left)?;
+                self.term(right)?;
+                self.put(sum(*operator), *place)
+            }
+        }
+    }
+
+    pub fn condition(&mut self, condition: &Condition) -> Result<(), Failure>
+        ensures { OnOk result (Emits self.old (condition_code self.old.scope condition.now) self.new) }
+    {
+        self.expression(&condition.left)?;
+        self.expression(&condition.right)?;
+        self.put(comparison(condition.relation), condition.place)
+    }
 }

@@ -7,12 +7,13 @@ ghost use Rattle.translator.specs.Published.{LabelledOnce, Linearised};
 
 mod buffers;
 mod emit;
+mod emitter;
 mod expressions;
-mod lookup;
+mod failure;
+mod instructions;
 pub mod program;
 pub mod refusal;
 mod statements;
-mod symbols;
 
 // The published translation has jumps to tree addresses; linearised it is the linear code, which the emitters make.
 pub fn linearised()

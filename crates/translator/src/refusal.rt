@@ -3,9 +3,10 @@ ghost use Rattle.std.specs.Prelude.{◌≡◌};
 ghost use Rattle.translator.specs.declared.refusal.Refusal.TheVariants.{Naming, NoMemory};
 ghost use Rattle.translator.specs.Refusals.{number_of, place_of};
 
+use crate::failure::Failure;
 use std::alloc::AllocError;
 
-#[derive(Clone, Copy)]
+#[derive(Clone, Copy, PartialEq, Eq, Debug)]
 pub enum Refusal {
     Naming(names::refusal::Refusal),
     // over 4,096 instructions; the place of the first one too many
@@ -35,8 +36,7 @@ impl Refusal {
         match self {
             Refusal::Naming(refusal) => refusal.place(),
             Refusal::TooMuchCode(place) => *place,
-            Refusal::SmallBuffer => 0,
-            Refusal::NoMemory => 0,
+            Refusal::SmallBuffer | Refusal::NoMemory => 0,
         }
     }
 }
@@ -54,5 +54,14 @@ impl From<names::refusal::Refusal> for Refusal {
 
     fn from(refusal: names::refusal::Refusal) -> Refusal {
         Refusal::Naming(refusal)
+    }
+}
+
+// A wide operand has no number of its own.
+impl From<Failure> for Refusal {
+    ghost from_gives = { λ _ y. y ≡ NoMemory };
+
+    fn from(_failure: Failure) -> Refusal {
+        Refusal::NoMemory
     }
 }

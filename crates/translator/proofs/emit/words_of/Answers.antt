@@ -9,8 +9,8 @@ use Rattle.translator.proofs.emit.words_of.Goals as goal
 
 pub loop-instruction-preserved : goal.loop-instruction-preserved
 loop-instruction-preserved c = (
-  mapped_more (λ x. word_of x.0) c.args.code.now c.loop-instruction.instruction-index _ _ c.loop-instruction-test.true c.loop-instruction.invariant.0 c.in_ok-push-in-Some.ensures.items c.in-Some.ensures.1,
-  All-more (λ x. InRange x.0) c.args.code.now c.loop-instruction.instruction-index _ c.loop-instruction-test.true c.loop-instruction.invariant.1 c.in-Some.ensures.0,
+  mapped_more (λ x. word_of x.0) c.args.code.now c.loop-instruction.instruction-index _ _ c.loop-instruction-test.true c.loop-instruction.invariant.0 c.in_ok-push.ensures.items c.in_ok-word.ensures.is,
+  All-more (λ x. InRange x.0) c.args.code.now c.loop-instruction.instruction-index _ c.loop-instruction-test.true c.loop-instruction.invariant.1 c.in_ok-word.ensures.range,
 )
 
 pub returns : goal.returns

@@ -1,24 +1,24 @@
 -- Words told by their bytes, and the word at the front of a text.
-use Rattle.std.proofs.Common.{◌≡◌, ℕ, zero, suc, ◌<◌, Bool, true, false, ◌&&◌, ◌||◌, leb, List, [], ◌∷◌, length, get_or, take, Some, sym, refl, ap, ◌∙◌, arith, rules}
+use Rattle.std.proofs.Common.{◌≡◌, ℕ, suc, ◌+◌, Bool, true, false, ◌&&◌, ◌||◌, leb, List, [], ◌∷◌, length, get_or, take, drop, Some, sym, refl, ap, ◌∙◌, arith, rules, drop-cons}
 use Rattle.std.specs.List.{prefix_len}
 use Rattle.std.specs.Char.{is_ascii_alphanumeric}
-use Rattle.std.proofs.lemmas.Grind.{same_number_lists}
+use Rattle.std.proofs.lemmas.List.{drop_all}
 use Rattle.syntax.specs.Tokens.{Kind}
 use Rattle.lexer.specs.Bytes.{digit, word_byte}
 use Rattle.lexer.specs.Scan.{word_kind, word_at, limited_kind, limited}
 use Rattle.lexer.proofs.Runs.{run_same}
 
-pub six : (w : List ℕ) (a b c d e f : ℕ) → length w ≡ 6 → get_or w 0 0 ≡ a → get_or w 1 0 ≡ b → get_or w 2 0 ≡ c → get_or w 3 0 ≡ d → get_or w 4 0 ≡ e → get_or w 5 0 ≡ f → w ≡ a ∷ b ∷ c ∷ d ∷ e ∷ f ∷ []
-six w a b c d e f n at0 at1 at2 at3 at4 at5 = same_number_lists w (a ∷ b ∷ c ∷ d ∷ e ∷ f ∷ []) n each
-  where
-    each : (k : ℕ) → k < length w → get_or w k 0 ≡ get_or (a ∷ b ∷ c ∷ d ∷ e ∷ f ∷ []) k 0
-    each zero h = at0
-    each (suc zero) h = at1
-    each (suc (suc zero)) h = at2
-    each (suc (suc (suc zero))) h = at3
-    each (suc (suc (suc (suc zero)))) h = at4
-    each (suc (suc (suc (suc (suc zero))))) h = at5
-    each (suc (suc (suc (suc (suc (suc k)))))) h = absurd (omega (arith, n))
+-- from place i on w has the bytes of v
+abbrev pub Spells : ℕ → List ℕ → List ℕ → Type 0
+Spells i w [] = Unit {0}
+Spells i w (b ∷ v) = (get_or w i 0 ≡ b) × Spells (suc i) w v
+
+spelled : (i : ℕ) (w v : List ℕ) → length w ≡ i + length v → Spells i w v → drop i w ≡ v
+spelled i w [] n is = drop_all i w (omega arith)
+spelled i w (b ∷ v) n is = drop-cons w i 0 (omega arith) ∙ (λ j. is.0 j ∷ spelled (suc i) w v (omega arith) is.1 j)
+
+pub reserved_is : (w v : List ℕ) → length w ≡ length v → Spells 0 w v → word_kind v ≡ word_kind w
+reserved_is w v n is = sym (ap word_kind (spelled 0 w v (omega arith) is))
 
 alphanumeric : (b : ℕ) → is_ascii_alphanumeric b ≡ word_byte b
 alphanumeric b = turned (digit b) (leb 65 b && leb b 90) (leb 97 b && leb b 122)

@@ -5,8 +5,8 @@ use Rattle.syntax.specs.declared.token.Token as coded
 use Rattle.syntax.specs.declared.token.Kind as coded-kind
 use Rattle.syntax.specs.declared.token.Kind.TheVariants as code
 use Rattle.syntax.specs.Tokens.{kind_of, tokens_of}
-use Rattle.grammar.specs.Kinds.{Kind, Mark, LeftParen, RightParen, Semicolon, Comma, Int, LeftBrace, If, Else, While, Token, mark, number, additive, multiplicative, Additive, Plus, Minus, Multiplicative, Times, Divide, Modulo, same}
-use Rattle.grammar.specs.Automaton.{Symbol, identifier, names, body, tail_entries, Frame, braces, whole, level, statement, tail, guard, bad, ifs, whiles, blocks, elses, closes, statement_entries, token, End, at_paren, at_semicolon, inside, expression, factor, products, sums, end, Step, next, Entry, pick, step, factor_entries, sum_entries, end_entries, go, feed, judged, judge, Verdict}
+use Rattle.grammar.specs.Kinds.{Kind, Mark, LeftParen, RightParen, Semicolon, Comma, Int, Else, Token, mark, number, additive, multiplicative, Additive, Plus, Minus, Multiplicative, Times, Divide, Modulo, same}
+use Rattle.grammar.specs.Automaton.{Symbol, identifier, names, body, tail_entries, Frame, braces, whole, level, statement, tail, bad, elses, closes, statement_entries, token, End, at_paren, at_semicolon, inside, expression, factor, products, sums, end, Step, next, Entry, pick, step, factor_entries, sum_entries, end_entries, go, feed, judged, judge, Verdict}
 use Rattle.grammar.proofs.Forest.{carry, value, same_sound}
 use Rattle.parser.specs.declared.refusal.Refusal.{Refusal}
 use Rattle.parser.specs.Readers.{Marks}
@@ -173,15 +173,9 @@ no_else us vs h e es x s =
     (λ k n. pass (mark Else, elses 32 (e ∷ es) x s) rest k n ∙ sym (pass (mark Else, elses 32 es x s) rest k n))
     ∙ ap (λ l. judge l (tail 32 es x ∷ s)) (sym h.0)
 
--- the word of a statement that has levels below it
-pub if_read : {us vs : List Token} {n d e : ℕ} → us ≡ token_at (mark If) n ∷ vs → d ≡ suc e → (es : List ℕ) (x : Frame) (s : List Symbol) → judge us (statement 32 d es x ∷ s) ≡ judge vs (guard 32 (statement 32 e (e ∷ es) x ∷ s))
-if_read {vs = vs} {n = n} {d = d} q h es x s = ap (λ l. judge l (statement 32 d es x ∷ s)) q ∙ ap (λ d. judged (go (feed vs) n (ifs 32 d es x s))) h
-
-pub while_read : {us vs : List Token} {n d e : ℕ} → us ≡ token_at (mark While) n ∷ vs → d ≡ suc e → (es : List ℕ) (x : Frame) (s : List Symbol) → judge us (statement 32 d es x ∷ s) ≡ judge vs (guard 32 (statement 32 e es x ∷ s))
-while_read {vs = vs} {n = n} {d = d} q h es x s = ap (λ l. judge l (statement 32 d es x ∷ s)) q ∙ ap (λ d. judged (go (feed vs) n (whiles 32 d es x s))) h
-
-pub block_read : {us vs : List Token} {n d e : ℕ} → us ≡ token_at (mark LeftBrace) n ∷ vs → d ≡ suc e → (es : List ℕ) (x : Frame) (s : List Symbol) → judge us (statement 32 d es x ∷ s) ≡ judge vs (statement 32 e [] (braces e) ∷ (tail 32 es x ∷ s))
-block_read {vs = vs} {n = n} {d = d} q h es x s = ap (λ l. judge l (statement 32 d es x ∷ s)) q ∙ ap (λ d. judged (go (feed vs) n (blocks 32 d es x s))) h
+-- the first token of a statement that has statements below it
+pub inner_read : {us vs : List Token} {m : Mark} {n d e : ℕ} → us ≡ token_at (mark m) n ∷ vs → d ≡ suc e → (es : List ℕ) (x : Frame) (s t : List Symbol) → step (statement 32 (suc e) es x ∷ s) (mark m) ≡ next t → judge us (statement 32 d es x ∷ s) ≡ judge vs t
+inner_read {m = m} {d = d} q h es x s t k = taken q (statement 32 d es x ∷ s) t (ap (λ d. step (statement 32 d es x ∷ s) (mark m)) h ∙ k)
 
 -- ── declarations ──
 

@@ -3,9 +3,9 @@
 --   end_of, closed    the token behind a list of statements, and what is expected after it
 --   TakesCondition    a condition in its parentheses
 --   TakesStatement    a statement with so many levels to spare below it
---   TakesKeyword      one behind its first token, which is no name
---   TakesAssignment, TakesScan, TakesPrint, TakesIf, TakesWhile, TakesBlock
---                     one of each kind behind its first token
+--   TakesAssignment, TakesIf, TakesWhile, TakesBlock
+--                     one of each of these kinds behind its first token
+--   TakesCall         `scanf` or `printf` behind its word, with these tokens before the name
 --   TakesStatements   statements up to the token behind them
 use Rattle.std.specs.Prelude.{◌≡◌, ℕ, ◌<◌, List, [], ◌∷◌, length, Result, OnOk}
 use Rattle.grammar.specs.Kinds.{Token, Mark, Return, RightParen, RightBrace, Semicolon, Assign}

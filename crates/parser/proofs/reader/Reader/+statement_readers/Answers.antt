@@ -1,8 +1,8 @@
 use Rattle.std.proofs.Common.{rules, [], ◌∷◌, sym, refl, ◌∙◌, arith}
 use Rattle.grammar.specs.Kinds.{Scanf, Printf, If, While, LeftBrace, LeftParen, RightParen, Format, Comma, Semicolon, Ampersand, Assign}
-use Rattle.grammar.specs.Automaton.{at_semicolon, braces, token, identifier, expression, statement, tail}
+use Rattle.grammar.specs.Automaton.{at_semicolon, braces, token, identifier, expression, statement, tail, guard}
 use Rattle.parser.specs.Readers.{tokens}
-use Rattle.parser.proofs.Feeds.{gone, onward, read_as, read_mark, peeked_fewer, missed, met, taken, if_read, while_read, block_read, else_read, no_else, end_read, no_end}
+use Rattle.parser.proofs.Feeds.{gone, onward, read_as, read_mark, peeked_fewer, missed, met, taken, inner_read, else_read, no_else, end_read, no_end}
 use Rattle.parser.proofs.reader.Reader.+statement_readers.Goals as goal
 
 pub statement-returns-in-Name-clause-takes : goal.statement-returns-in-Name-clause-takes
@@ -28,19 +28,19 @@ statement-returns-in-Mark-Printf-clause-takes t c = λ source es x s.
 pub statement-returns-in_ok-inner-in-Mark-If-clause-takes : goal.statement-returns-in_ok-inner-in-Mark-If-clause-takes
 statement-returns-in_ok-inner-in-Mark-If-clause-takes t c = λ source es x s.
     onward _ _ _ c.if_statement.result
-    (if_read (read_mark source If c.in_ok-token.ensures.read c.in-Mark-If.is (search rules)) c.in_ok-inner-in-Mark-If.ensures es x s)
+    (inner_read (read_mark source If c.in_ok-token.ensures.read c.in-Mark-If.is (search rules)) c.in_ok-inner-in-Mark-If.ensures es x s (guard 32 (statement 32 c.in_ok-inner-in-Mark-If.field-0 (c.in_ok-inner-in-Mark-If.field-0 ∷ es) x ∷ s)) refl)
     (λ x h. tt) (c.if_statement.ensures.takes source es x s)
 
 pub statement-returns-in_ok-inner-in-Mark-While-clause-takes : goal.statement-returns-in_ok-inner-in-Mark-While-clause-takes
 statement-returns-in_ok-inner-in-Mark-While-clause-takes t c = λ source es x s.
     onward _ _ _ c.while_statement.result
-    (while_read (read_mark source While c.in_ok-token.ensures.read c.in-Mark-While.is (search rules)) c.in_ok-inner-in-Mark-While.ensures es x s)
+    (inner_read (read_mark source While c.in_ok-token.ensures.read c.in-Mark-While.is (search rules)) c.in_ok-inner-in-Mark-While.ensures es x s (guard 32 (statement 32 c.in_ok-inner-in-Mark-While.field-0 es x ∷ s)) refl)
     (λ x h. tt) (c.while_statement.ensures.takes source es x s)
 
 pub statement-returns-in_ok-inner-in-Mark-LeftBrace-clause-takes : goal.statement-returns-in_ok-inner-in-Mark-LeftBrace-clause-takes
 statement-returns-in_ok-inner-in-Mark-LeftBrace-clause-takes t c = λ source es x s.
     onward _ _ _ c.block.result
-    (block_read (read_mark source LeftBrace c.in_ok-token.ensures.read c.in-Mark-LeftBrace.is (search rules)) c.in_ok-inner-in-Mark-LeftBrace.ensures es x s)
+    (inner_read (read_mark source LeftBrace c.in_ok-token.ensures.read c.in-Mark-LeftBrace.is (search rules)) c.in_ok-inner-in-Mark-LeftBrace.ensures es x s (statement 32 c.in_ok-inner-in-Mark-LeftBrace.field-0 [] (braces c.in_ok-inner-in-Mark-LeftBrace.field-0) ∷ (tail 32 es x ∷ s)) refl)
     (λ x h. tt) (c.block.ensures.takes source (tail 32 es x ∷ s))
 
 pub if_statement-returns-in_err-condition-clause-takes : goal.if_statement-returns-in_err-condition-clause-takes

@@ -7,6 +7,7 @@ ghost use Rattle.code.specs.Advances.{AdvancesAddUp, AdvancesStayWithin};
 ghost use Rattle.code.specs.Stack.{Frame, TooFew, Full, Jumps};
 
 // One instruction. Cells and jump targets count from 1.
+// Flat: with the operations in an enum of their own, one case of this, a step took a tenth longer.
 #[derive(Clone, Copy, PartialEq, Eq, Debug)]
 pub enum Instruction {
     Literal(i32),
@@ -30,6 +31,7 @@ pub enum Instruction {
 }
 
 // The word of an instruction, or none where a literal needs more than 31 bits.
+// Two functions and no TryFrom: its error type would say no more than None, both here and in decode.
 pub fn encode(instruction: Instruction) -> Option<u32>
     ensures { Encoded instruction result }
 {

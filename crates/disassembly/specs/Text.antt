@@ -1,7 +1,7 @@
 -- How code is written for a person.
 --   named      an instruction's name and operand
 --   position   the line and the column, both from 1, behind some bytes
-use Rattle.std.specs.Prelude.{ℕ, ◌+◌, cond, List, [], ◌∷◌, ◌++◌, codes, decimal, ◌==◌}
+use Rattle.std.specs.Prelude.{ℕ, ◌+◌, cond, List, ◌++◌, codes, decimal, fold, ◌==◌}
 use Rattle.std.specs.Fmt.{signed_decimal}
 use Rattle.code.specs.declared.Instruction.{Instruction}
 use Rattle.code.specs.declared.Instruction.TheVariants.{Literal, Read, Write, Load, Store, Jump, JumpIfZero, Add, Subtract, Multiply, Divide, Modulo, Less, Equal, Unequal, Greater, AtMost, AtLeast}
@@ -30,9 +30,5 @@ named AtLeast = codes "GE"
 abbrev pub stepped : ℕ × ℕ → ℕ → ℕ × ℕ
 stepped p b = cond (b == 10) (p.0 + 1, 1) (p.0, p.1 + 1)
 
-abbrev pub walked : ℕ × ℕ → List ℕ → ℕ × ℕ
-walked p [] = p
-walked p (b ∷ bs) = walked (stepped p b) bs
-
 abbrev pub position : List ℕ → ℕ × ℕ
-position bytes = walked (1, 1) bytes
+position bytes = fold stepped (1, 1) bytes

@@ -42,7 +42,8 @@ fn first_outside(code: &[Instruction]) -> Option<usize>
     ensures within { IfSome result (λ place. place < length code.now) }
 {
     let len = code.len();
-    code.iter().position(|i| !is_inside(*i, len))
+    code.iter()
+        .position(|instruction| !is_inside(*instruction, len))
 }
 
 // The instructions of these words, or the first word that is none.

@@ -9,74 +9,89 @@ use std::time::Instant;
 use tapes::words::{WordInput, WordOutput};
 use units::strict::Strict;
 
-// c = 0; for ever { c = c + 1 }
-static COUNT: [u32; 8] = [
-    0x8000_0000,
-    0x5800_0001,
-    0x5000_0001,
-    0x8000_0001,
-    1,
-    0x5800_0001,
-    0x8000_0000,
-    0x6800_0003,
-];
+// A loop that never ends.
+struct Loop {
+    name: &'static str,
+    words: &'static [u32],
+}
 
-// i = 0; s = 0; for ever { j = 0; while (j < 1000) { s = i - s; j = j + 1; } i = i + 1; }
-static NESTED: [u32; 24] = [
-    0x8000_0000,
-    0x5800_0001,
-    0x8000_0000,
-    0x5800_0003,
-    0x8000_0000,
-    0x5800_0002,
-    0x5000_0002,
-    0x8000_03E8,
-    6,
-    0x6800_0014,
-    0x5000_0001,
-    0x5000_0003,
-    2,
-    0x5800_0003,
-    0x5000_0002,
-    0x8000_0001,
-    1,
-    0x5800_0002,
-    0x6000_0007,
-    0x5000_0001,
-    0x8000_0001,
-    1,
-    0x5800_0001,
-    0x6000_0005,
-];
-
-// x = 0; s = 0; for ever { if (x % 3 == 0) s = x / 7; else s = s % 5 - 1; x = x + 1; }
-static BRANCHES: [u32; 26] = [
-    0x8000_0000,
-    0x5800_0001,
-    0x8000_0000,
-    0x5800_0002,
-    0x5000_0001,
-    0x8000_0003,
-    5,
-    0x8000_0000,
-    7,
-    0x6800_0010,
-    0x5000_0001,
-    0x8000_0007,
-    4,
-    0x5800_0002,
-    0x6000_0016,
-    0x5000_0002,
-    0x8000_0005,
-    5,
-    0x8000_0001,
-    2,
-    0x5800_0002,
-    0x5000_0001,
-    0x8000_0001,
-    1,
-    0x5800_0001,
-    0x6000_0005,
+static LOOPS: [Loop; 3] = [
+    // c = 0; for ever { c = c + 1 }
+    Loop {
+        name: "count",
+        words: &[
+            0x8000_0000,
+            0x5800_0001,
+            0x5000_0001,
+            0x8000_0001,
+            1,
+            0x5800_0001,
+            0x8000_0000,
+            0x6800_0003,
+        ],
+    },
+    // i = 0; s = 0; for ever { j = 0; while (j < 1000) { s = i - s; j = j + 1; } i = i + 1; }
+    Loop {
+        name: "nested",
+        words: &[
+            0x8000_0000,
+            0x5800_0001,
+            0x8000_0000,
+            0x5800_0003,
+            0x8000_0000,
+            0x5800_0002,
+            0x5000_0002,
+            0x8000_03E8,
+            6,
+            0x6800_0014,
+            0x5000_0001,
+            0x5000_0003,
+            2,
+            0x5800_0003,
+            0x5000_0002,
+            0x8000_0001,
+            1,
+            0x5800_0002,
+            0x6000_0007,
+            0x5000_0001,
+            0x8000_0001,
+            1,
+            0x5800_0001,
+            0x6000_0005,
+        ],
+    },
+    // x = 0; s = 0; for ever { if (x % 3 == 0) s = x / 7; else s = s % 5 - 1; x = x + 1; }
+    Loop {
+        name: "branches",
+        words: &[
+            0x8000_0000,
+            0x5800_0001,
+            0x8000_0000,
+            0x5800_0002,
+            0x5000_0001,
+            0x8000_0003,
+            5,
+            0x8000_0000,
+            7,
+            0x6800_0010,
+            0x5000_0001,
+            0x8000_0007,
+            4,
+            0x5800_0002,
+            0x6000_0016,
+            0x5000_0002,
+            0x8000_0005,
+            5,
+            0x8000_0001,
+            2,
+            0x5800_0002,
+            0x5000_0001,
+            0x8000_0001,
+            1,
+            0x5800_0001,
+            0x6000_0005,
+        ],
+    },
 ];
 
 // The number of steps: the first argument, or a few.
@@ -88,14 +103,10 @@ fn wanted(rt: &HostRuntime) -> anyhow::Result<u32> {
 }
 
 // The name, steps and status on the output, so that the same run gives the same text; the time on the error output.
-fn measure(rt: &HostRuntime, name: &str, words: &[u32], steps: u32) -> anyhow::Result<()> {
-    let image = match admit(rt.alloc(), words) {
+fn measure(rt: &HostRuntime, looped: &Loop, steps: u32) -> anyhow::Result<()> {
+    let image = match admit(rt.alloc(), looped.words) {
         Ok(image) => image,
-        Err(e) => {
-            let refused = Refused::from(e);
-            println!(rt; "{refused}")?;
-            return Ok(());
-        }
+        Err(e) => return Ok(rt.println(Refused::from(e))?),
     };
     let input = WordInput::new(Vec::new(rt.alloc()));
     let output = WordOutput::new(Vec::new(rt.alloc()));
@@ -103,17 +114,15 @@ fn measure(rt: &HostRuntime, name: &str, words: &[u32], steps: u32) -> anyhow::R
     let start = Instant::now(rt)?;
     let told = run.advance(steps);
     let spent = start.elapsed(rt)?;
-    let made = told.steps;
-    let status = told.status.number();
-    println!(rt; "{name} {made} {status}")?;
-    let nanos = spent.as_nanos();
-    eprintln!(rt; "{name} {made} {nanos}")?;
+    println!(rt; "{} {} {}", looped.name, told.steps, told.status.number())?;
+    eprintln!(rt; "{} {} {}", looped.name, told.steps, spent.as_nanos())?;
     Ok(())
 }
 
 fn main(rt: HostRuntime) -> anyhow::Result<()> {
     let steps = wanted(&rt)?;
-    measure(&rt, "count", &COUNT, steps)?;
-    measure(&rt, "nested", &NESTED, steps)?;
-    measure(&rt, "branches", &BRANCHES, steps)
+    for looped in &LOOPS {
+        measure(&rt, looped, steps)?;
+    }
+    Ok(())
 }

@@ -10,8 +10,8 @@ use Rattle.syntax.specs.declared.token.Token as coded
 use Rattle.syntax.specs.declared.token.Kind as coded-kind
 use Rattle.syntax.specs.declared.token.Kind.TheVariants as code
 use Rattle.syntax.specs.Tokens.{Name, Kind, mark, name, number, relation, additive, multiplicative, kind_of, token_of, tokens_of}
-use Rattle.lexer.specs.declared.refusal.Refusal.{Refusal}
-use Rattle.lexer.specs.declared.refusal.Refusal.TheVariants as refusal
+use Rattle.lexer.specs.declared.refusals.Refusal.{Refusal}
+use Rattle.lexer.specs.declared.refusals.Refusal.TheVariants as refusal
 use Rattle.lexer.specs.Scan.{limited_kind}
 use Rattle.lexer.specs.Lex.{Lexeme, lexeme, tokens, Lexed, good, stray, lexing, too_large, coded_too_large, first_too_large, answer, accepted, refused, sized, read, lexeme_of, lexemes_of, Within, limited_lexeme, limited_all, Strays, Refuses}
 use Rattle.lexer.specs.Reading.{Reads, done, blank, token, Reading}

@@ -25,8 +25,8 @@
 use Rattle.std.specs.Prelude.{◌≡◌, ℕ, ◌+◌, ◌-◌, ◌≤◌, Bool, false, cond, List, [], ◌∷◌, ◌++◌, map, length, replicate, Some, None, Option, nat_lt}
 use Rattle.syntax.specs.declared.token.Token as coded
 use Rattle.syntax.specs.Tokens.{Kind, mark, name, number, relation, additive, multiplicative, Token, kind_of, token_of}
-use Rattle.lexer.specs.declared.refusal.Refusal.{Refusal}
-use Rattle.lexer.specs.declared.refusal.Refusal.TheVariants as refusal
+use Rattle.lexer.specs.declared.refusals.Refusal.{Refusal}
+use Rattle.lexer.specs.declared.refusals.Refusal.TheVariants as refusal
 use Rattle.lexer.specs.Bytes.{blank}
 use Rattle.lexer.specs.Scan.{scanned, limited_kind}
 

@@ -9,10 +9,10 @@ ghost use Rattle.lexer.specs.Bytes.{blank};
 ghost use Rattle.lexer.specs.Reading.{Lexical};
 ghost use Rattle.lexer.specs.Lex.{good, lexing, limited_all, lexemes_of, coded_too_large, answer, accepted, Refuses, Strays, Within};
 
-pub mod refusal;
+pub mod refusals;
 mod scan;
 
-use refusal::Refusal;
+use refusals::Refusal;
 use scan::scan_token;
 use std::alloc::Global;
 use syntax::token::{Kind, Token};

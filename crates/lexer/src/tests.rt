@@ -1,6 +1,7 @@
 // What `lex` answers: how many tokens there are, or why there are none.
 use crate::lex;
-use crate::refusal::Refusal::{self, NoMemory, NoToken, TooLarge, TooLong};
+use crate::refusals::Refusal::{self, NoMemory, NoToken, TooLarge, TooLong};
+use refusal::Refused;
 use std::process::Abort;
 use std::test::Fail;
 use syntax::token::{Kind, Mark, Relation, Token};
@@ -120,6 +121,6 @@ fn refusals(rt: HostRuntime) {
         (NoMemory, 40, 0),
     ];
     for (refusal, number, place) in cases {
-        assert_eq!(rt; (refusal.number(), refusal.place()), (number, place));
+        assert_eq!(rt; Refused::from(refusal), Refused { number, place });
     }
 }

@@ -1,8 +1,8 @@
 use Rattle.std.proofs.Common.{◌≡◌, ◌-◌, List, ℕ, None, length, vec_items, sym, ap, subst, ◌∙◌, arith, rules, length-drop}
 use Rattle.std.proofs.lemmas.List.{take_rest}
 use Rattle.std.proofs.lemmas.Result.{err_from_is_err_and}
-use Rattle.lexer.specs.declared.refusal.Refusal.{Refusal}
-use Rattle.lexer.specs.declared.refusal.Refusal.TheVariants.{NoToken}
+use Rattle.lexer.specs.declared.refusals.Refusal.{Refusal}
+use Rattle.lexer.specs.declared.refusals.Refusal.TheVariants.{NoToken}
 use Rattle.lexer.specs.Scan.{seen}
 use Rattle.lexer.specs.Lex.{lexing, Strays}
 use Rattle.lexer.proofs.Turns.{ReadTo, scanned_sizes, told_none, blank_turn, stray_turn, token_turn}

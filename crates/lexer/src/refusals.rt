@@ -1,8 +1,9 @@
 // Why a source has no tokens to give.
 ghost use Rattle.std.specs.Prelude.{◌≡◌};
-ghost use Rattle.lexer.specs.declared.refusal.Refusal.TheVariants.{NoMemory};
+ghost use Rattle.lexer.specs.declared.refusals.Refusal.TheVariants.{NoMemory};
 ghost use Rattle.lexer.specs.Lex.{number_of, place_of};
 
+use refusal::Refused;
 use std::alloc::AllocFailed;
 
 #[derive(Clone, Copy, PartialEq, Eq, Debug)]
@@ -16,26 +17,19 @@ pub enum Refusal {
     NoMemory,
 }
 
-impl Refusal {
-    pub fn number(&self) -> u32
-        ensures { result ≡ number_of self.now }
-    {
-        match self {
-            Refusal::TooLong => 1,
-            Refusal::NoToken(_) => 2,
-            Refusal::TooLarge(_) => 3,
-            Refusal::NoMemory => 40,
-        }
-    }
+impl From<Refusal> for Refused {
+    ghost from_gives = { λ e r. (r.number ≡ number_of e) × (r.place ≡ place_of e) };
 
-    // A place in the source.
-    pub fn place(&self) -> u32
-        ensures { result ≡ place_of self.now }
-    {
-        match self {
-            Refusal::TooLong => 16_384,
-            Refusal::NoToken(place) | Refusal::TooLarge(place) => *place,
-            Refusal::NoMemory => 0,
+    fn from(e: Refusal) -> Refused {
+        let (number, place) = match e {
+            Refusal::TooLong => (1, 16_384),
+            Refusal::NoToken(place) => (2, place),
+            Refusal::TooLarge(place) => (3, place),
+            Refusal::NoMemory => (40, 0),
+        };
+        Refused {
+            number,
+            place: place as usize,
         }
     }
 }

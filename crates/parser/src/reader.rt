@@ -23,7 +23,7 @@ impl Reader<'_> {
         self.rest.split_off_first().copied().ok_or(Refusal::TooSoon)
     }
 
-    // Reads the next token as what `form` makes of it, if anything.
+    // Reads the next token as what `form` makes of it, or leaves it where that is nothing.
     fn pick<T, F: FnOnce(Token) -> Option<T>>(&mut self, form: F) -> Option<T>
         requires { F.IsAlwaysCallable form }
         ensures picked { Picks (F.post form) (left self.old) result (left self.new) }
@@ -34,7 +34,7 @@ impl Reader<'_> {
         Some(read)
     }
 
-    // Reads the next token, which must be what `form` makes something of.
+    // Reads the next token as what `form` makes of it, or refuses it where that is nothing.
     fn need<T, F: FnOnce(Token) -> Option<T>>(&mut self, form: F) -> Result<T, Refusal>
         requires { F.IsAlwaysCallable form }
         ensures needed { Needs (F.post form) (left self.old) result (left self.new) }

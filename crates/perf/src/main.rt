@@ -103,6 +103,8 @@ fn wanted(rt: &HostRuntime) -> anyhow::Result<u32> {
 }
 
 // The name, steps and status on the output, so that the same run gives the same text; the time on the error output.
+// Not inlined: inside main a step takes a tenth longer.
+#[inline(never)]
 fn measure(rt: &HostRuntime, looped: &Loop, steps: u32) -> anyhow::Result<()> {
     let image = match admit(rt.alloc(), looped.words) {
         Ok(image) => image,

@@ -40,6 +40,7 @@ impl Refusal {
     }
 }
 
+// By hand: `tokens` promises which error its `?` makes.
 impl<T: Drop> From<AllocFailed<T>> for Refusal {
     ghost from_gives = { λ _ y. y ≡ NoMemory };
 

@@ -1,5 +1,5 @@
 -- A token that stands at the front of a text is found.
-use Rattle.std.proofs.Common.{◌≡◌, ℕ, ◌+◌, ◌≤◌, true, false, cond, ◌&&◌, eqb, leb, ◌⊎◌, List, [], ◌∷◌, ◌++◌, length, take, Some, None, codes, Option, sym, refl, ap, ◌∙◌, subst, inl, inr, ⊎_elim, append_assoc, arith, length-append}
+use Rattle.std.proofs.Common.{◌≡◌, ℕ, ◌+◌, ◌≤◌, true, false, cond, ◌&&◌, eqb, leb, ◌⊎◌, List, [], ◌∷◌, ◌++◌, length, take, Some, None, codes, Option, sym, refl, ap, ◌∙◌, subst, inl, inr, ⊎_elim, append_assoc, rules, arith, length-append}
 use Rattle.std.specs.List.{prefix_len, AllByRecursion}
 use Rattle.std.proofs.lemmas.List.{take_at, drop_at}
 use Rattle.std.proofs.lemmas.Bool.{cases_Bool, and_parts, leb-true, eqb-true, false≢true}
@@ -71,65 +71,17 @@ no_equals rest h = ⊎_elim (λ e. let two = h e in absurd (omega arith)) (λ e.
 one_byte : (one two : Kind) (rest : List ℕ) → (begins (codes "=") rest ≡ true → 2 ≤ 1) → cond {A = Option (Kind × ℕ)} (begins (codes "=") rest) (Some (two, 2)) (Some (one, 1)) ≡ Some (one, 1)
 one_byte one two rest h = ap (λ t. cond {A = Option (Kind × ℕ)} t (Some (two, 2)) (Some (one, 1))) (no_equals rest h)
 
+less_found : SymbolFound (codes "<", syntax.relation Less)
+less_found rest h = one_byte (syntax.relation Less) (syntax.relation AtMost) rest (h _ (inr (inr (inr (inl refl)))))
+
+greater_found : SymbolFound (codes ">", syntax.relation Greater)
+greater_found rest h = one_byte (syntax.relation Greater) (syntax.relation AtLeast) rest (h _ (inr (inr (inr (inr (inl refl))))))
+
+assign_found : SymbolFound (codes "=", syntax.mark Assign)
+assign_found rest h = one_byte (syntax.mark Assign) (syntax.relation Equal) rest (h _ (inr (inl refl)))
+
 each_symbol : AllByRecursion SymbolFound symbols
-each_symbol = (
-  λ rest h. refl,
-  (
-    λ rest h. refl,
-    (
-      λ rest h. refl,
-      (
-        λ rest h. refl,
-        (
-          λ rest h. refl,
-          (
-            λ rest h. one_byte (syntax.relation Less) (syntax.relation AtMost) rest (h _ (inr (inr (inr (inl refl))))),
-            (
-              λ rest h. one_byte (syntax.relation Greater) (syntax.relation AtLeast) rest (h _ (inr (inr (inr (inr (inl refl)))))),
-              (
-                λ rest h. one_byte (syntax.mark Assign) (syntax.relation Equal) rest (h _ (inr (inl refl))),
-                (
-                  λ rest h. refl,
-                  (
-                    λ rest h. refl,
-                    (
-                      λ rest h. refl,
-                      (
-                        λ rest h. refl,
-                        (
-                          λ rest h. refl,
-                          (
-                            λ rest h. refl,
-                            (
-                              λ rest h. refl,
-                              (
-                                λ rest h. refl,
-                                (
-                                  λ rest h. refl,
-                                  (
-                                    λ rest h. refl,
-                                    (
-                                      λ rest h. refl,
-                                      (λ rest h. refl, tt),
-                                    ),
-                                  ),
-                                ),
-                              ),
-                            ),
-                          ),
-                        ),
-                      ),
-                    ),
-                  ),
-                ),
-              ),
-            ),
-          ),
-        ),
-      ),
-    ),
-  ),
-)
+each_symbol = search (rules, less_found, greater_found, assign_found)
 
 pub of_listed : (P : Spelling → Type 0) (ss : List Spelling) (s : Spelling) → AllByRecursion P ss → Listed s ss → P s
 of_listed P [] s h l = absurd l

@@ -1,8 +1,8 @@
 -- A text reads in one way.
-use Rattle.std.proofs.Common.{◌≡◌, ℕ, suc, ◌+◌, ◌-◌, ◌<◌, true, false, cond, List, [], ◌∷◌, ◌++◌, length, get_or, Some, None, Option, sym, refl, ap, ◌∙◌, subst, append-nil, arith, length-append}
+use Rattle.std.proofs.Common.{◌≡◌, ℕ, suc, ◌+◌, ◌-◌, ◌<◌, Bool, true, false, not, rules, cond, List, [], ◌∷◌, ◌++◌, length, get_or, Some, None, Option, sym, refl, ap, ◌∙◌, subst, append-nil, arith, length-append}
 use Rattle.std.specs.List.{AllByRecursion}
 use Rattle.std.proofs.lemmas.List.{drop_at, take-append-drop}
-use Rattle.std.proofs.lemmas.Bool.{false≢true}
+use Rattle.std.proofs.lemmas.Bool.{false≢true, not-true}
 use Rattle.std.proofs.lemmas.Bool.Decides.{nat_tests}
 use Rattle.syntax.specs.Tokens.{Kind}
 use Rattle.lexer.specs.Bytes as bytes
@@ -28,71 +28,23 @@ digit_begun : (w : List ℕ) → 0 < length w → AllByRecursion (λ b. digit b 
 digit_begun [] some all = absurd (omega arith)
 digit_begun (b ∷ w) some all = let e : digit b ≡ true = all.0 in (b, w, refl, grind (arith, nat_tests))
 
-begun_each : AllByRecursion (λ s. Begun s.0) symbols
-begun_each = (
-  (_, _, refl, refl),
-  (
-    (_, _, refl, refl),
-    (
-      (_, _, refl, refl),
-      (
-        (_, _, refl, refl),
-        (
-          (_, _, refl, refl),
-          (
-            (_, _, refl, refl),
-            (
-              (_, _, refl, refl),
-              (
-                (_, _, refl, refl),
-                (
-                  (_, _, refl, refl),
-                  (
-                    (_, _, refl, refl),
-                    (
-                      (_, _, refl, refl),
-                      (
-                        (_, _, refl, refl),
-                        (
-                          (_, _, refl, refl),
-                          (
-                            (_, _, refl, refl),
-                            (
-                              (_, _, refl, refl),
-                              (
-                                (_, _, refl, refl),
-                                (
-                                  (_, _, refl, refl),
-                                  (
-                                    (_, _, refl, refl),
-                                    (
-                                      (_, _, refl, refl),
-                                      ((_, _, refl, refl), tt),
-                                    ),
-                                  ),
-                                ),
-                              ),
-                            ),
-                          ),
-                        ),
-                      ),
-                    ),
-                  ),
-                ),
-              ),
-            ),
-          ),
-        ),
-      ),
-    ),
-  ),
-)
+-- a byte comes first, and is not blank
+abbrev solid : List ℕ → Bool
+solid [] = false
+solid (b ∷ bs) = not (bytes.blank b)
+
+solid_begun : (w : List ℕ) → solid w ≡ true → Begun w
+solid_begun [] e = absurd (false≢true e)
+solid_begun (b ∷ w) e = (b, w, refl, not-true (bytes.blank b) e)
+
+each_solid : AllByRecursion (λ s. solid s.0 ≡ true) symbols
+each_solid = search rules
 
 begun : (k : Kind) (w rest : List ℕ) → Starts k w rest → Begun w
 begun k w rest (head t) = (_, _, t.bytes, refl)
 begun k w rest (word t) = letter_begun w t.first
 begun k w rest (number t) = digit_begun w t.some t.all
-begun k w rest (symbol t) = of_listed (λ s. Begun s.0) symbols (w, k) begun_each t.listed
+begun k w rest (symbol t) = solid_begun w (of_listed (λ s. solid s.0 ≡ true) symbols (w, k) each_solid t.listed)
 
 scan_here : (b p : ℕ) (bs : List ℕ) (o : Option (Kind × ℕ)) → bytes.blank b ≡ false → scanned (b ∷ bs) ≡ o → lexed (b ∷ bs) p 0 ≡ found p (λ n. lexed bs (p + 1) n) o
 scan_here b p bs o e is = ap (λ t. cond t (lexed bs (p + 1) 0) (found p (λ n. lexed bs (p + 1) n) (scanned (b ∷ bs)))) e ∙ ap (found p (λ n. lexed bs (p + 1) n)) is

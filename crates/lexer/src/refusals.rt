@@ -34,6 +34,7 @@ impl From<Refusal> for Refused {
     }
 }
 
+// By hand: `tokens` promises which error its `?` makes.
 impl<T: Drop> From<AllocFailed<T>> for Refusal {
     ghost from_gives = { λ _ y. y ≡ NoMemory };
 

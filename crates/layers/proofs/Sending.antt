@@ -1,5 +1,5 @@
 -- Puts one after another.
-use Rattle.std.proofs.Common.{◌≡◌, ℕ, ◌+◌, ◌<◌, ◌≤◌, List, [], ◌∷◌, ◌++◌, length, get_or, take, ℤ, pos, Ok, Err, Result, sym, refl, ap, ◌∙◌, append_assoc, append-nil, arith, length-take}
+use Rattle.std.proofs.Common.{◌≡◌, ℕ, ◌+◌, ◌<◌, ◌≤◌, List, [], ◌∷◌, ◌++◌, length, get_or, take, ℤ, pos, Ok, Err, Result, ap, ◌∙◌, append_assoc, arith, length-take}
 use Rattle.std.proofs.lemmas.List.{take_more, length_push}
 use Rattle.tapes.specs.declared.output.Pinch.{Pinch}
 use Rattle.tapes.specs.Meaning.{Meaning, Put, Appended}
@@ -9,9 +9,6 @@ use Rattle.layers.specs.Layers.{Sent}
 pub put_ok : (m : Meaning) (x : ℤ) (r : Result (Unit {0}) Pinch) (n : Meaning) → Put m x r n → 0 < m.room → Appended m x n
 put_ok m x (Ok _) n p h = p
 put_ok m x (Err e) n p h = absurd (omega (arith, p.0))
-
-pub sent_none : (m : Meaning) → Sent m [] m
-sent_none m = record { written = sym (append-nil m.written); lower = omega arith; pinch = refl; rests = omega arith }
 
 pub sent_more : (m : Meaning) (xs : List ℤ) (n : Meaning) (x : ℤ) (k : Meaning) → Sent m xs n → Appended n x k → Sent m (xs ++ x ∷ []) k
 sent_more m xs n x k s a =

@@ -1,27 +1,21 @@
 // A signed 32-bit number as a text line: 11 columns and a line feed.
 #![tactic(auto)]
 
-ghost use Rattle.std.specs.Prelude.{◌≡◌, ◌≤◌, length, slice_index};
-ghost use Rattle.lines.specs.Lines.{line_of, Read, Numeral, Padded, OneLineEach};
+ghost use Rattle.std.specs.Prelude.{◌≡◌};
+ghost use Rattle.lines.specs.Lines.{line_of, Read, OneLineEach};
+
+use itoa::Buffer;
+use std::str;
 
 // The line of a number.
 pub fn write_line(x: i32) -> [u8; 12]
     ensures { result ≡ line_of x }
 {
+    let mut buffer = Buffer::new();
+    let number = buffer.format(x).as_bytes();
     let mut line = [b' '; 12];
     line[11] = b'\n';
-    let mut at = 11;
-    let mut rest = x.unsigned_abs();
-    while rest >= 10 {
-        at -= 1;
-        line[at] = b'0' + (rest % 10) as u8;
-        rest /= 10;
-    }
-    at -= 1;
-    line[at] = b'0' + rest as u8;
-    if x < 0 {
-        line[at - 1] = b'-';
-    }
+    line[11 - number.len()..11].copy_from_slice(number);
     line
 }
 
@@ -29,69 +23,14 @@ pub fn write_line(x: i32) -> [u8; 12]
 pub fn read_line(line: &[u8]) -> Option<i32>
     ensures { Read line.now result }
 {
-    if line.len() != 12 {
-        return None;
-    }
-    if line[11] != b'\n' {
-        return None;
-    }
-    let start = spaces(line);
-    if line[start] == b'-' {
-        let n = numeral(&line[start + 1..11])?;
-        if n == 0 || n > 0x8000_0000 {
-            None
-        } else {
-            Some((-(n as i64)) as i32)
-        }
-    } else {
-        let n = numeral(&line[start..11])?;
-        if n > 0x7FFF_FFFF {
-            None
-        } else {
-            Some(n as i32)
-        }
-    }
-}
-
-// How many spaces come first in the 11 columns of a line.
-fn spaces(line: &[u8]) -> usize
-    requires { (length line.now ≡ 12) × (slice_index line.now 11 ≡ 10) }
-    ensures { Padded line.now result }
-{
-    let mut n = 0;
-    while n < 11 && line[n] == b' ' {
-        n += 1;
-    }
-    n
-}
-
-// The number that the digits write, or none where they are no number's digits.
-fn numeral(digits: &[u8]) -> Option<u64>
-    requires { length digits.now ≤ 11 }
-    ensures { Numeral digits.now result }
-{
-    if digits.len() == 0 {
-        return None;
-    }
-    if digits.len() > 1 && digits[0] == b'0' {
-        return None;
-    }
-    let mut n: u64 = 0;
-    for d in digits {
-        if !d.is_ascii_digit() {
-            return None;
-        }
-        n = 10 * n + u64::from(*d - b'0');
-    }
-    Some(n)
+    let x = str::from_utf8(line).ok()?.trim().parse().ok()?;
+    (line == write_line(x).as_slice()).then_some(x)
 }
 
 // Each number has one line.
-pub fn one_line_each() -> u8
+pub fn one_line_each()
     ensures { OneLineEach }
-{
-    0
-}
+{}
 
 #[cfg(test)]
 mod tests {

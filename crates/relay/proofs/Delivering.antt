@@ -1,5 +1,5 @@
 -- What is written and what is still to be put, together, stay the same as numbers are delivered.
-use Rattle.std.proofs.Common.{◌≡◌, ℕ, suc, List, [], ◌∷◌, ◌++◌, ℤ, Some, Option, Ok, Err, Result, sym, ap, ◌∙◌, append_assoc, append-nil, arith}
+use Rattle.std.proofs.Common.{◌≡◌, ℕ, suc, List, [], ◌∷◌, ◌++◌, ℤ, Some, Option, Ok, Err, Result, sym, ap, ◌∙◌, append_assoc, arith}
 use Rattle.tapes.specs.Meaning.{Meaning}
 use Rattle.relay.specs.declared.relay.Undelivered.{Undelivered}
 use Rattle.relay.specs.declared.relay.Undelivered.TheVariants.{OutOfRange, NoRoom}
@@ -24,7 +24,3 @@ delivered narrow m x (Err (NoRoom v p)) n xs d =
     ap (λ k. whole narrow xs k) d.3
     ∙ ap (λ k. m.written ++ rest k) d.1
     ∙ sym (ap (λ w. m.written ++ w) (ap (λ o. before o m.room rest) d.0 ∙ ap (λ k. before (Some v) k rest) d.1))
-
--- nothing waits any more
-pub all_written : (narrow : ℤ → Option ℤ) (xs : List ℤ) (m : Meaning) → xs ≡ [] → m.written ≡ whole narrow xs m
-all_written narrow xs m e = sym (append-nil m.written) ∙ sym (ap (λ ys. whole narrow ys m) e)

@@ -43,6 +43,7 @@ impl InputTape for WordInput {
 #[derive(Drop)]
 pub struct WordOutput {
     words: Vec<i32>,
+    // no more than the memory had words, though the capacity may be larger
     left: usize,
 }
 

@@ -55,9 +55,6 @@ text_more bs n x h e t =
 
 -- a text from its front
 
-pub numbers_short : (bs : List ℕ) → length bs < 12 → numbers_in bs ≡ []
-numbers_short bs l = ap (λ n. readings n bs) (let e : length bs / 12 ≡ 0 = omega arith in e)
-
 pub numbers_long : (bs : List ℕ) → 12 ≤ length bs → numbers_in bs ≡ number_in (take 12 bs) ∷ numbers_in (drop 12 bs)
 numbers_long bs l =
     let d = length-drop 12 bs in

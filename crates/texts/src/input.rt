@@ -11,6 +11,7 @@ use tapes::input::InputTape;
 #[derive(Drop)]
 pub struct TextInput {
     bytes: Vec<u8>,
+    // a place, since a line is read as a slice, and `IntoIter` gives none of what is left
     next: usize,
 }
 

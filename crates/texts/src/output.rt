@@ -11,6 +11,7 @@ use tapes::output::{OutputTape, Pinch};
 #[derive(Drop)]
 pub struct TextOutput {
     text: Vec<u8>,
+    // no more lines than the memory was long for, though the capacity may be larger
     left: usize,
 }
 

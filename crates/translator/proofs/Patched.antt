@@ -1,11 +1,10 @@
 -- A jump that is put with no target and filled in once the target is known.
-use Rattle.std.proofs.Common.{◌≡◌, ℕ, suc, ◌+◌, List, [], ◌∷◌, ◌++◌, length, set, sym, refl, ap, ◌∙◌, append_assoc, arith, length-append}
-use Rattle.std.proofs.lemmas.List.{set_at}
+use Rattle.std.proofs.Common.{◌≤◌, ◌<◌, get_or, drop, ◌≡◌, ℕ, suc, ◌+◌, List, [], ◌∷◌, ◌++◌, length, set, sym, refl, ap, ◌∙◌, append_assoc, arith, length-append}
+use Rattle.std.proofs.lemmas.List.{set_at, at_drop_more, at_drop_all, append-nil}
 use Rattle.code.specs.declared.Instruction.{Instruction}
 use Rattle.code.specs.declared.Instruction.TheVariants.{Jump, JumpIfZero}
 use Rattle.syntax.specs.declared.tree.Condition.{Condition}
 use Rattle.syntax.specs.declared.tree.Statement.{Statement}
-use Rattle.syntax.specs.declared.tree.Statements.{Statements}
 use Rattle.translator.specs.Linear.{Code, past}
 use Rattle.translator.specs.Emitted.{condition_code, statement_code, statements_code, if_code, if_else_code, while_code}
 use Rattle.translator.specs.Emitters.{Emits}
@@ -164,12 +163,28 @@ module _ (p : ℕ) (c : Condition) (x : Statement) {m₀ m₁ m₂ m₃ : Emitte
       until : m₅.scope ≡ m₀.scope
       until = same ∙ over.scope ∙ made.scope ∙ kept
 
--- statements one after another
-pub emits_then : (x : Statement) (xs : Statements) {m₀ m₁ m₂ : Emitter} → Emits m₀ (statement_code m₀.scope x (suc (length m₀.code.items))) m₁ → Emits m₁ (statements_code m₁.scope xs (suc (length m₁.code.items))) m₂ →
-    Emits m₀ (let a : Code = statement_code m₀.scope x (suc (length m₀.code.items)) in a ++ statements_code m₀.scope xs (past (suc (length m₀.code.items)) a)) m₂
-emits_then x xs {m₀} {m₁} first rest = record {
-  scope = rest.scope ∙ first.scope;
-  code =
-      followed m₀.code.items (statement_code m₀.scope x (suc (length m₀.code.items))) (statements_code m₀.scope xs) first.code
-      (rest.code ∙ ap (λ s. m₁.code.items ++ statements_code s xs (suc (length m₁.code.items))) first.scope);
+-- m₁ has put the code of some statements, and the code of those left makes up the code of all
+pub record Left (m₀ m₁ : Emitter) (all left : List Statement) : Type 0 where
+  pub scope : m₁.scope ≡ m₀.scope
+  pub code : m₁.code.items ++ statements_code m₀.scope left (suc (length m₁.code.items)) ≡ m₀.code.items ++ statements_code m₀.scope all (suc (length m₀.code.items))
+
+pub one_less : (all : List Statement) (i : ℕ) (x : Statement) {m₀ m₁ m₂ : Emitter} → i < length all → x ≡ get_or all i x → Left m₀ m₁ all (drop i all) → Emits m₁ (statement_code m₁.scope x (suc (length m₁.code.items))) m₂ →
+    Left m₀ m₂ all (drop (i + 1) all)
+one_less all i x {m₀} {m₁} {m₂} h is left put =
+    let a : ℕ = suc (length m₁.code.items) in
+    let rest : ℕ → Code = statements_code m₀.scope (drop (i + 1) all) in
+    let here : m₂.code.items ≡ m₁.code.items ++ statement_code m₀.scope x a = put.code ∙ ap (λ s. m₁.code.items ++ statement_code s x a) left.scope in
+    record {
+      scope = put.scope ∙ left.scope;
+      code =
+          followed m₁.code.items (statement_code m₀.scope x a) rest here refl
+          ∙ ap (λ y. m₁.code.items ++ statements_code m₀.scope (y ∷ drop (i + 1) all) a) is
+          ∙ sym (at_drop_more (λ l. m₁.code.items ++ statements_code m₀.scope l a) all i x h)
+          ∙ left.code;
+    }
+
+pub none_left : (all : List Statement) (i : ℕ) {m₀ m₁ : Emitter} → length all ≤ i → Left m₀ m₁ all (drop i all) → Emits m₀ (statements_code m₀.scope all (suc (length m₀.code.items))) m₁
+none_left all i {m₀} {m₁} h left = record {
+  scope = left.scope;
+  code = sym (append-nil m₁.code.items) ∙ sym (at_drop_all (λ l. m₁.code.items ++ statements_code m₀.scope l (suc (length m₁.code.items))) all i h) ∙ left.code;
 }

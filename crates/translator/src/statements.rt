@@ -6,7 +6,7 @@ ghost use Rattle.translator.specs.Emitters.{Emits};
 use crate::emitter::Emitter;
 use crate::failure::Failure;
 use code::Instruction;
-use syntax::tree::{Condition, Statement, Statements};
+use syntax::tree::{Condition, Statement};
 
 impl Emitter<'_> {
     #[cycle(statement_emitters)]
@@ -105,15 +105,12 @@ impl Emitter<'_> {
     }
 
     #[cycle(statement_emitters)]
-    pub fn statements(&mut self, statements: &Statements) -> Result<(), Failure>
+    pub fn statements(&mut self, statements: &[Statement]) -> Result<(), Failure>
         ensures { OnOk result (Emits self.old (statements_code self.old.scope statements.now (suc (length self.old.code.items))) self.new) }
     {
-        match statements {
-            Statements::Nothing => Ok(()),
-            Statements::Then(statement, rest) => {
-                self.statement(statement)?;
-                self.statements(rest)
-            }
+        for statement in statements {
+            self.statement(statement)?;
         }
+        Ok(())
     }
 }

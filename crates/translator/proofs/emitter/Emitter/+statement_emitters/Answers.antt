@@ -1,8 +1,6 @@
-use Rattle.std.proofs.Common.{◌∙◌, suc, length, sym, subst}
-use Rattle.std.proofs.lemmas.Result.{on_ok_weaker}
-use Rattle.translator.specs.Emitted.{statements_code}
-use Rattle.translator.specs.Emitters.{Emits}
-use Rattle.translator.proofs.Patched.{emits_if, emits_if_else, emits_while, emits_then}
+use Rattle.std.proofs.Common.{rules, ◌∙◌}
+use Rattle.syntax.proofs.Blocks.{block_of}
+use Rattle.translator.proofs.Patched.{emits_if, emits_if_else, emits_while, one_less, none_left}
 use Rattle.translator.proofs.emitter.Emitter.+statement_emitters.Goals as goal
 
 pub if_statement-returns : goal.if_statement-returns
@@ -21,6 +19,11 @@ if_else_statement-returns t c =
     c.args.else_place c.args.else_body.now c.len-skip.result c.in_ok-end.end c.in_ok-second.second (c.len-skip.ensures ∙ c.statement.new.self.code.ok.0) c.in_ok-put-2.ensures
     c.in_ok-second.ensures c.patch.ensures.scope c.patch.ensures.code c.in_ok-statement-2.ensures c.in_ok-end.ensures c.patch-2.ensures.scope c.patch-2.ensures.code
 
-pub statements-returns-in_ok-statement-in-Then : goal.statements-returns-in_ok-statement-in-Then
-statements-returns-in_ok-statement-in-Then t c =
-    on_ok_weaker c.statements.result (λ rest. subst (λ xs. Emits c.args.self.now (statements_code c.args.self.now.scope xs (suc (length c.args.self.now.code.items))) c.statements.new.self) (sym c.in-Then.is) (emits_then c.in-Then.statement c.in-Then.rest.value c.in_ok-statement-in-Then.ensures (subst (λ xs. Emits c.statement.new.self (statements_code c.statement.new.self.scope xs (suc (length c.statement.new.self.code.items))) c.statements.new.self) c.deref.ensures rest))) c.statements.ensures
+pub statement-returns-in-Block : goal.statement-returns-in-Block
+statement-returns-in-Block t c = search (rules, block_of)
+
+pub statements-loop-statement-preserved : goal.statements-loop-statement-preserved
+statements-loop-statement-preserved t c = one_less c.args.statements.now c.loop-statement.statement-index _ c.loop-statement-test.true c.statement-item.is c.loop-statement.invariant c.in_ok-statement.ensures
+
+pub statements-returns : goal.statements-returns
+statements-returns t c = none_left c.args.statements.now c.loop-statement.statement-index c.loop-statement-test.false c.loop-statement.invariant

@@ -101,7 +101,7 @@ impl Scope<'_> {
 
     // The first name of the statements that is not declared, if there is one.
     #[cycle(statement_uses)]
-    pub fn check_statements(&self, statements: &[Statement]) -> Result<(), Refusal>
+    pub(crate) fn check_statements(&self, statements: &[Statement]) -> Result<(), Refusal>
         ensures { result ≡ outcome (first_undeclared (entries self.now) (uses_in_statements (statements_of self.now.source.now statements.now))) }
     {
         for statement in statements {

@@ -1,15 +1,18 @@
 -- Names used one after another.
-use Rattle.std.proofs.Common.{◌≡◌, ℕ, zero, suc, ◌-◌, ◌<◌, Bool, true, false, cond, [], ◌∷◌, ◌++◌, is_some, IsErrAnd, Some, None, Ok, Err, Option, Result, sym, refl, ap, ◌∙◌, subst, arith}
+use Rattle.std.proofs.Common.{List, ◌+◌, length, get_or, drop, ◌≡◌, ℕ, zero, suc, ◌-◌, ◌<◌, Bool, true, false, cond, [], ◌∷◌, ◌++◌, is_some, IsErrAnd, Some, None, Ok, Err, Option, Result, sym, refl, ap, ◌∙◌, subst, arith}
 use Rattle.std.proofs.lemmas.Result.{err_from_is_err_and}
 use Rattle.std.proofs.lemmas.Bool.{false≢true, true≢false}
+use Rattle.std.proofs.lemmas.List.{at_drop_more}
 use Rattle.syntax.specs.Tokens.{Name}
+use Rattle.syntax.specs.TreeOf.{statement_of, statements_of}
+use Rattle.syntax.specs.declared.tree.Statement.{Statement}
 use Rattle.names.specs.declared.refusal.Refusal.{Refusal}
 use Rattle.names.specs.declared.refusal.Refusal.TheVariants as refusal
 use Rattle.names.specs.Cells.{Entries, name_at, cell_of, Undeclared, Looked}
 use Rattle.syntax.specs.Trees.{Program}
 use Rattle.names.specs.Declares as refuses
 use Rattle.names.specs.Declares.{Declaration}
-use Rattle.names.specs.Uses.{uses_in_statements, Declared, AllDeclared, FirstUndeclared, first_undeclared, outcome}
+use Rattle.names.specs.Uses.{uses_in_statement, uses_in_statements, Declared, AllDeclared, FirstUndeclared, first_undeclared, outcome}
 use Rattle.names.specs.Names.{Answers, Refuses}
 use Rattle.names.proofs.Looks.{looked}
 
@@ -36,6 +39,16 @@ one_by_one es us vs = ap outcome (both es us vs) ∙ at (first_undeclared es us)
     at : (o : Option ℕ) → outcome (either o (first_undeclared es vs)) ≡ checked (outcome o) (outcome (first_undeclared es vs))
     at None = refl
     at (Some p) = refl
+
+-- a statement is checked before those behind it
+pub statement_then : (s : List ℕ) (es : Entries) (xs : List Statement) (i : ℕ) (x : Statement) (r : Result (Unit {0}) Refusal) → i < length xs → x ≡ get_or xs i x → r ≡ outcome (first_undeclared es (uses_in_statement (statement_of s x))) →
+    outcome (first_undeclared es (uses_in_statements (statements_of s (drop i xs)))) ≡ checked r (outcome (first_undeclared es (uses_in_statements (statements_of s (drop (i + 1) xs)))))
+statement_then s es xs i x r h is answer =
+    let rest : Entries = uses_in_statements (statements_of s (drop (i + 1) xs)) in
+    at_drop_more (λ l. outcome (first_undeclared es (uses_in_statements (statements_of s l)))) xs i x h
+    ∙ one_by_one es (uses_in_statement (statement_of s (get_or xs i x))) rest
+    ∙ ap (λ y. checked (outcome (first_undeclared es (uses_in_statement (statement_of s y)))) (outcome (first_undeclared es rest))) (sym is)
+    ∙ ap (λ q. checked q (outcome (first_undeclared es rest))) (sym answer)
 
 abbrev FirstIf : Entries → Entries → Option ℕ → Type 0
 FirstIf es us None = AllDeclared es us

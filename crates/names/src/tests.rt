@@ -5,7 +5,7 @@ use crate::refusal::Refusal;
 use std::alloc::{AllocError, Global};
 use std::process::Abort;
 use std::test::Fail;
-use syntax::tree::{Expression, Factor, Name, Program, Statement, Statements, Term};
+use syntax::tree::{Expression, Factor, Name, Program, Statement, Term};
 
 const fn name(place: u32, length: u32) -> Name {
     Name { place, length }
@@ -90,11 +90,10 @@ fn sizes(rt: HostRuntime) -> Result<(), Fail> {
 fn assignment(heap: Global, declared: &[Name]) -> Result<Result<(), Refusal>, AllocError> {
     let value = Expression::First(Term::One(Factor::Variable(name(2, 1))));
     let statement = Statement::Assign(name(0, 1), value);
-    let rest = Box::new(heap, Statements::Nothing)?;
     let declared = Vec::from_slice(heap, declared)?;
     let program = Program {
         declared,
-        statements: Statements::Then(statement, rest),
+        statements: vec![in heap; statement]?,
     };
     Ok(check_names(b"x=y;", &program))
 }

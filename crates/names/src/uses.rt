@@ -8,7 +8,7 @@ ghost use Rattle.names.specs.Uses.{uses_in_factor, uses_in_term, uses_in_express
 
 use crate::cells::Scope;
 use crate::refusal::Refusal;
-use syntax::tree::{Condition, Expression, Factor, Name, Statement, Statements, Term};
+use syntax::tree::{Condition, Expression, Factor, Name, Statement, Term};
 
 impl Scope<'_> {
     fn check_name(&self, name: Name) -> Result<(), Refusal>
@@ -101,15 +101,12 @@ impl Scope<'_> {
 
     // The first name of the statements that is not declared, if there is one.
     #[cycle(statement_uses)]
-    pub fn check_statements(&self, statements: &Statements) -> Result<(), Refusal>
+    pub(crate) fn check_statements(&self, statements: &[Statement]) -> Result<(), Refusal>
         ensures { result ≡ outcome (first_undeclared (entries self.now) (uses_in_statements (statements_of self.now.source.now statements.now))) }
     {
-        match statements {
-            Statements::Nothing => Ok(()),
-            Statements::Then(first, rest) => {
-                self.check_statement(first)?;
-                self.check_statements(rest)
-            }
+        for statement in statements {
+            self.check_statement(statement)?;
         }
+        Ok(())
     }
 }

@@ -1,7 +1,9 @@
 -- The syntax tree that the code builds, as a tree over names. The boxes are left out, and names are read from the source.
 --   name_of                             the bytes of a name
 --   factor_of, term_of, expression_of   the three levels of an expression
---   condition_of, statement_of, statements_of
+--   condition_of, statement_of
+--   row_of                              the statements of a block
+--   statements_of                       the same of a list of statements
 --   declared_of                         the names of a declaration
 --   tree_of                             a whole program
 use Rattle.std.specs.Prelude.{ℕ, List, [], ◌∷◌, take, drop, vec_items}
@@ -13,9 +15,8 @@ use Rattle.syntax.specs.declared.tree.Term.{Term}
 use Rattle.syntax.specs.declared.tree.Expression.{Expression}
 use Rattle.syntax.specs.declared.tree.Expression.TheVariants.{First, Negative, Sum', Variable, Number, Parenthesized', One, Product'}
 use Rattle.syntax.specs.declared.tree.Condition.{Condition}
-use Rattle.syntax.specs.declared.tree.Statement.{Statement}
-use Rattle.syntax.specs.declared.tree.Statements.{Statements}
-use Rattle.syntax.specs.declared.tree.Statement.TheVariants.{Assign, Scan, Print, If', IfElse', While', Block', Nothing, Then'}
+use Rattle.syntax.specs.declared.tree.Statement.{Statement, Row_of-Statement, end_of-Statement, more_of-Statement}
+use Rattle.syntax.specs.declared.tree.Statement.TheVariants.{Assign, Scan, Print, If', IfElse', While', Block'}
 use Rattle.syntax.specs.declared.tree.Program.{Program}
 
 abbrev pub name_of : List ℕ → coded-name.Name → Name
@@ -47,15 +48,20 @@ abbrev mutual
   statement_of source (If' place c box body) = tree.when place (condition_of source c) (statement_of source body)
   statement_of source (IfElse' place c box body else-place else-box else-body) = tree.either place (condition_of source c) (statement_of source body) else-place (statement_of source else-body)
   statement_of source (While' place c box body) = tree.while place (condition_of source c) (statement_of source body)
-  statement_of source (Block' box ss) = tree.block (statements_of source ss)
+  statement_of source (Block' shape ss) = tree.block (row_of source ss)
 
-  pub statements_of : List ℕ → Statements → tree.Statements Name
-  statements_of source Nothing = tree.none
-  statements_of source (Then' s box ss) = tree.then (statement_of source s) (statements_of source ss)
+  -- the statements of a block, as they lie in it
+  pub row_of : List ℕ → {m : _} → Row_of-Statement m → tree.Statements Name
+  row_of source end_of-Statement = tree.none
+  row_of source (more_of-Statement s ss) = tree.then (statement_of source s) (row_of source ss)
+
+abbrev pub statements_of : List ℕ → List Statement → tree.Statements Name
+statements_of source [] = tree.none
+statements_of source (s ∷ ss) = tree.then (statement_of source s) (statements_of source ss)
 
 abbrev pub declared_of : List ℕ → List coded-name.Name → List (Name × ℕ)
 declared_of source [] = []
 declared_of source (n ∷ ns) = (name_of source n, n.place) ∷ declared_of source ns
 
 abbrev pub tree_of : List ℕ → Program → tree.Program Name
-tree_of source p = record { declared = declared_of source (vec_items p.declared); statements = statements_of source p.statements }
+tree_of source p = record { declared = declared_of source (vec_items p.declared); statements = statements_of source (vec_items p.statements) }

@@ -54,7 +54,6 @@ pub struct Condition {
 }
 
 // The place of an `if` or a `while` is that of its word.
-#[cycle(statement)]
 #[derive(Drop)]
 pub enum Statement {
     Assign(Name, Expression),
@@ -77,18 +76,11 @@ pub enum Statement {
         condition: Condition,
         body: Box<Statement>,
     },
-    Block(Box<Statements>),
-}
-
-#[cycle(statement)]
-#[derive(Drop)]
-pub enum Statements {
-    Nothing,
-    Then(Statement, Box<Statements>),
+    Block(Vec<Statement>),
 }
 
 #[derive(Drop)]
 pub struct Program {
     pub declared: Vec<Name>,
-    pub statements: Statements,
+    pub statements: Vec<Statement>,
 }

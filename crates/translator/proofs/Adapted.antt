@@ -1,5 +1,6 @@
 -- Where the table has each label's number, patching gives the linear code.
 use Rattle.std.proofs.Common.{◌≡◌, ℕ, suc, List, [], ◌∷◌, ◌++◌, refl, ap, ◌∙◌, subst, ap₂}
+use Rattle.std.proofs.lemmas.List.{append-nil}
 use Rattle.syntax.specs.Trees.{Condition, Statement, assign, scan, print, when, either, while, block, Statements, none, then}
 use Rattle.code.specs.declared.Instruction.TheVariants.{Store, Jump, JumpIfZero}
 use Rattle.translator.specs.Linear.{Code, past, code_of_expression, code_of_condition, code_of_statement, code_of_statements}
@@ -54,10 +55,6 @@ ends_is t n (plain i p ∷ xs) = ends_is t (suc n) xs
 ends_is t n (jump l p ∷ xs) = ends_is t (suc n) xs
 ends_is t n (jump_if_zero l p ∷ xs) = ends_is t (suc n) xs
 
-++-nil : (xs : Code) → xs ++ [] ≡ xs
-++-nil [] = refl
-++-nil (x ∷ xs) = ap (λ (r : Code). x ∷ r) (++-nil xs)
-
 module _ (t : Table) where
   -- a piece's lines stand for its code, so they end where it ends
   ends_at : (n : ℕ) (xs : List Line) (c : Code) → adapt t xs ≡ c → ends n xs ≡ past n c
@@ -80,7 +77,7 @@ module _ (t : Table) where
       let f : find l t ≡ past a₁ (code_of_statement s a₁) = (agrees_right t a₁ body (label l ∷ []) h₁).0 ∙ ends_at a₁ body (code_of_statement s a₁) e in
       adapt-++ t (plain_lines (code_of_condition c)) rest
       ∙ ap₂ (λ (x y : Code). x ++ y) (adapt_plain_lines t (code_of_condition c))
-      (ap₂ (λ (n : ℕ) (r : Code). (JumpIfZero n, p) ∷ r) f (adapt-++ t body (label l ∷ []) ∙ ++-nil (adapt t body) ∙ e))
+      (ap₂ (λ (n : ℕ) (r : Code). (JumpIfZero n, p) ∷ r) f (adapt-++ t body (label l ∷ []) ∙ append-nil (adapt t body) ∙ e))
 
   adapt_either : (p : ℕ) (c : Condition ℕ) (s : Statement ℕ) (q : ℕ) (s' : Statement ℕ) → Adapted s → Adapted s' → Adapted (either p c s q s')
   adapt_either p c s q s' P P' a l h =
@@ -102,7 +99,7 @@ module _ (t : Table) where
       ∙ ap₂ (λ (x y : Code). x ++ y) (adapt_plain_lines t (code_of_condition c))
       (ap₂ (λ (n : ℕ) (r : Code). (JumpIfZero n, p) ∷ r) h₂.0
       (adapt-++ t body rest₂ ∙ ap₂ (λ (x y : Code). x ++ y) e
-      (ap₂ (λ (n : ℕ) (r : Code). (Jump n, q) ∷ r) f' (adapt-++ t body' last ∙ ++-nil (adapt t body') ∙ e'))))
+      (ap₂ (λ (n : ℕ) (r : Code). (Jump n, q) ∷ r) f' (adapt-++ t body' last ∙ append-nil (adapt t body') ∙ e'))))
 
   adapt_while : (p : ℕ) (c : Condition ℕ) (s : Statement ℕ) → Adapted s → Adapted (while p c s)
   adapt_while p c s P a l h =

@@ -4,5 +4,4 @@ pub mod Labels
 pub mod Looked
 pub mod Appended
 pub mod Patched
-pub mod CellsUsed
 pub mod Inside

@@ -1,14 +1,14 @@
 -- A jump that is put with no target and filled in once the target is known.
-use Rattle.std.proofs.Common.{◌≡◌, ℕ, suc, ◌+◌, List, [], ◌∷◌, ◌++◌, length, set, sym, refl, ap, ◌∙◌, append_assoc, arith, length-append}
-use Rattle.std.proofs.lemmas.List.{set_at}
+use Rattle.std.proofs.Common.{◌≤◌, ◌<◌, get_or, drop, ◌≡◌, ℕ, suc, ◌+◌, List, [], ◌∷◌, ◌++◌, length, set, sym, refl, ap, ◌∙◌, append_assoc, arith, length-append}
+use Rattle.std.proofs.lemmas.List.{set_at, at_drop_more, at_drop_all, append-nil}
 use Rattle.code.specs.declared.Instruction.{Instruction}
 use Rattle.code.specs.declared.Instruction.TheVariants.{Jump, JumpIfZero}
 use Rattle.syntax.specs.declared.tree.Condition.{Condition}
 use Rattle.syntax.specs.declared.tree.Statement.{Statement}
-use Rattle.syntax.specs.declared.tree.Statements.{Statements}
 use Rattle.translator.specs.Linear.{Code, past}
 use Rattle.translator.specs.Emitted.{condition_code, statement_code, statements_code, if_code, if_else_code, while_code}
 use Rattle.translator.specs.Emitters.{Emits}
+use Rattle.translator.specs.Guarded.{Guards}
 use Rattle.translator.specs.declared.emitter.Emitter.{Emitter}
 use Rattle.translator.proofs.Appended.{twice}
 
@@ -23,61 +23,48 @@ followed old a B {v₁} e f =
     let at : suc (length v₁) ≡ past (suc (length old)) a = (let p : past (suc (length old)) a ≡ suc (length old) + length a = past_is (suc (length old)) a in omega (arith, ap length e ∙ length-append old a)) in
     f ∙ (λ i. e i ++ B (at i)) ∙ append_assoc old a (B (past (suc (length old)) a))
 
--- old is extended by c, a gap and b, then the gap is filled
-module _ (gap : Instruction × ℕ) (old c b : Code) {v₁ v₂ v₃ : Code} (n : ℕ) (e₁ : v₁ ≡ old ++ c) (en : n ≡ length v₁) (e₂ : v₂ ≡ v₁ ++ (gap ∷ [])) (e₃ : v₃ ≡ v₂ ++ b) where
-  flat : v₃ ≡ (old ++ c) ++ (gap ∷ b)
-  flat = e₃ ∙ ap (λ l. l ++ b) (e₂ ∙ ap (λ l. l ++ (gap ∷ [])) e₁) ∙ append_assoc (old ++ c) (gap ∷ []) b
-
-  filled : (full : Instruction × ℕ) → set v₃ n full ≡ old ++ (c ++ (full ∷ b))
-  filled full = ap (λ l. set l n full) flat ∙ set_at (old ++ c) gap b full n (sym (en ∙ ap length e₁)) ∙ append_assoc old c (full ∷ b)
-
-  -- the address behind it all
-  end : suc (length v₃) ≡ past (suc (past (suc (length old)) c)) b
-  end =
-      let p : past (suc (length old)) c ≡ suc (length old) + length c = past_is (suc (length old)) c in
-      let q : past (suc (past (suc (length old)) c)) b ≡ suc (past (suc (length old)) c) + length b = past_is (suc (past (suc (length old)) c)) b in
-      omega (arith, ap length flat ∙ length-append (old ++ c) (gap ∷ b), length-append old c)
-
--- the address behind a condition and its jump
-behind : (gap : Instruction × ℕ) (old c : Code) {v₁ v₂ : Code} → v₁ ≡ old ++ c → v₂ ≡ v₁ ++ (gap ∷ []) → suc (length v₂) ≡ suc (past (suc (length old)) c)
-behind gap old c {v₁} e₁ e₂ =
-    let p : past (suc (length old)) c ≡ suc (length old) + length c = past_is (suc (length old)) c in
-    omega (arith, ap length e₁ ∙ length-append old c, ap length e₂ ∙ length-append v₁ (gap ∷ []))
-
 pub past-++ : {A : Type 0} (a : ℕ) (xs ys : List A) → past a (xs ++ ys) ≡ past (past a xs) ys
 past-++ a [] ys = refl
 past-++ a (x ∷ xs) ys = past-++ (suc a) xs ys
 
--- a condition, its jump and a body, which stands at the address behind the jump
-module _ (p : ℕ) (old c : Code) (B : ℕ → Code) {v₁ v₂ v₃ : Code} (n : ℕ) (e₁ : v₁ ≡ old ++ c) (en : n ≡ length v₁) (e₂ : v₂ ≡ v₁ ++ ((JumpIfZero 0, p) ∷ [])) (e₃ : v₃ ≡ v₂ ++ B (suc (length v₂))) where
+-- c, a gap and b stand behind old, and the gap is filled
+module _ (gap : Instruction × ℕ) (old c b : Code) (n : ℕ) {v : Code} (e : v ≡ old ++ (c ++ (gap ∷ b))) (en : n ≡ length old + length c) where
+  filled : (full : Instruction × ℕ) → set v n full ≡ old ++ (c ++ (full ∷ b))
+  filled full =
+      ap (λ l. set l n full) (e ∙ sym (append_assoc old c (gap ∷ b)))
+      ∙ set_at (old ++ c) gap b full n (length-append old c ∙ sym en) ∙ append_assoc old c (full ∷ b)
+
+  -- the address behind it all
+  end : suc (length v) ≡ past (suc (past (suc (length old)) c)) b
+  end =
+      let p : past (suc (length old)) c ≡ suc (length old) + length c = past_is (suc (length old)) c in
+      let q : past (suc (past (suc (length old)) c)) b ≡ suc (past (suc (length old)) c) + length b = past_is (suc (past (suc (length old)) c)) b in
+      omega (arith, ap length e ∙ length-append old (c ++ (gap ∷ b)), length-append c (gap ∷ b))
+
+-- a condition, its jump and a body
+module _ (p : ℕ) (old c body : Code) (n : ℕ) {v₃ : Code} (e : v₃ ≡ old ++ (c ++ ((JumpIfZero 0, p) ∷ body))) (en : n ≡ length old + length c) where
   abbrev gap : Instruction × ℕ
   gap = (JumpIfZero 0, p)
 
   abbrev a₁ : ℕ
   a₁ = suc (past (suc (length old)) c)
 
-  abbrev body : Code
-  body = B a₁
-
-  there : v₃ ≡ v₂ ++ body
-  there = e₃ ∙ ap (λ k. v₂ ++ B k) (behind gap old c e₁ e₂)
-
   if_made : (t : ℕ) {v₄ : Code} → t ≡ suc (length v₃) → v₄ ≡ set v₃ n (JumpIfZero t, p) →
       v₄ ≡ old ++ (c ++ ((JumpIfZero (past a₁ body), p) ∷ body))
   if_made t et e₄ =
-      e₄ ∙ filled gap old c body n e₁ en e₂ there (JumpIfZero t, p)
-      ∙ ap (λ k. old ++ (c ++ ((JumpIfZero k, p) ∷ body))) (et ∙ end gap old c body n e₁ en e₂ there)
+      e₄ ∙ filled gap old c body n e en (JumpIfZero t, p)
+      ∙ ap (λ k. old ++ (c ++ ((JumpIfZero k, p) ∷ body))) (et ∙ end gap old c body n e en)
 
   -- the body is followed by a jump
   module _ (x : Instruction × ℕ) {v₄ : Code} (e₄ : v₄ ≡ v₃ ++ (x ∷ [])) where
-    all : v₄ ≡ v₂ ++ (body ++ (x ∷ []))
-    all = twice v₂ body (x ∷ []) there e₄
+    all : v₄ ≡ old ++ (c ++ (gap ∷ (body ++ (x ∷ []))))
+    all = twice old (c ++ (gap ∷ body)) (x ∷ []) e e₄ ∙ ap (λ l. old ++ l) (append_assoc c (gap ∷ body) (x ∷ []))
 
     branched : (u : ℕ) {v₅ : Code} → u ≡ suc (length v₄) → v₅ ≡ set v₄ n (JumpIfZero u, p) →
         v₅ ≡ old ++ (c ++ ((JumpIfZero (suc (past a₁ body)), p) ∷ (body ++ (x ∷ []))))
     branched u eu e₅ =
-        e₅ ∙ filled gap old c (body ++ (x ∷ [])) n e₁ en e₂ all (JumpIfZero u, p)
-        ∙ ap (λ k. old ++ (c ++ ((JumpIfZero k, p) ∷ (body ++ (x ∷ []))))) (eu ∙ end gap old c (body ++ (x ∷ [])) n e₁ en e₂ all ∙ past-++ a₁ body (x ∷ []))
+        e₅ ∙ filled gap old c (body ++ (x ∷ [])) n all en (JumpIfZero u, p)
+        ∙ ap (λ k. old ++ (c ++ ((JumpIfZero k, p) ∷ (body ++ (x ∷ []))))) (eu ∙ end gap old c (body ++ (x ∷ [])) n all en ∙ past-++ a₁ body (x ∷ []))
 
   while_made : (s t : ℕ) {v₄ v₅ : Code} → s ≡ suc (length old) → v₄ ≡ v₃ ++ ((Jump s, p) ∷ []) → t ≡ suc (length v₄) → v₅ ≡ set v₄ n (JumpIfZero t, p) →
       v₅ ≡ old ++ (c ++ ((JumpIfZero (suc (past a₁ body)), p) ∷ (body ++ ((Jump (suc (length old)), p) ∷ []))))
@@ -98,55 +85,68 @@ module _ (p : ℕ) (old c : Code) (B : ℕ → Code) {v₁ v₂ v₃ : Code} (n 
     abbrev mid : Code
     mid = c ++ ((JumpIfZero second, p) ∷ body)
 
-    made : v₅ ≡ (old ++ mid) ++ (skip ∷ [])
-    made =
-        branched skip e₄ u eu e₅ ∙ ap (λ l. old ++ l) (sym (append_assoc c ((JumpIfZero second, p) ∷ body) (skip ∷ [])))
-        ∙ sym (append_assoc old mid (skip ∷ []))
+    made : v₅ ≡ old ++ (mid ++ (skip ∷ []))
+    made = branched skip e₄ u eu e₅ ∙ ap (λ l. old ++ l) (sym (append_assoc c ((JumpIfZero second, p) ∷ body) (skip ∷ [])))
 
     -- the jump over the second branch stands behind mid
-    spot : m ≡ length (old ++ mid)
-    spot =
-        omega (arith, em, ap length there ∙ length-append v₂ body, ap length e₂ ∙ length-append v₁ (gap ∷ []), ap length e₁ ∙ length-append old c, length-append old mid, length-append c ((JumpIfZero second, p) ∷ body))
+    spot : m ≡ length old + length mid
+    spot = omega (arith, em, ap length e ∙ length-append old (c ++ (gap ∷ body)), length-append c (gap ∷ body), length-append c ((JumpIfZero second, p) ∷ body))
 
     after : past (suc (length old)) mid ≡ past a₁ body
     after = past-++ (suc (length old)) c ((JumpIfZero second, p) ∷ body)
 
-    placed : v₆ ≡ v₅ ++ other
-    placed = e₆ ∙ ap (λ k. v₅ ++ D k) (behind skip old mid refl made ∙ ap suc after)
+    placed : v₆ ≡ old ++ (mid ++ (skip ∷ other))
+    placed =
+        twice old (mid ++ (skip ∷ [])) other made (e₆ ∙ ap (λ k. v₅ ++ D k) (end skip old mid [] m made spot ∙ ap suc after))
+        ∙ ap (λ l. old ++ l) (append_assoc mid (skip ∷ []) other)
 
     else_made : (t : ℕ) {v₇ : Code} → t ≡ suc (length v₆) → v₇ ≡ set v₆ m (Jump t, q) →
         v₇ ≡ old ++ (c ++ ((JumpIfZero second, p) ∷ (body ++ ((Jump (past second other), q) ∷ other))))
     else_made t et e₇ =
-        e₇ ∙ filled skip old mid other m refl spot made placed (Jump t, q)
-        ∙ ap (λ k. old ++ (mid ++ ((Jump k, q) ∷ other))) (et ∙ end skip old mid other m refl spot made placed ∙ ap (λ k. past (suc k) other) after)
+        e₇ ∙ filled skip old mid other m placed spot (Jump t, q)
+        ∙ ap (λ k. old ++ (mid ++ ((Jump k, q) ∷ other))) (et ∙ end skip old mid other m placed spot ∙ ap (λ k. past (suc k) other) after)
         ∙ ap (λ l. old ++ l) (append_assoc c ((JumpIfZero second, p) ∷ body) ((Jump (past second other), q) ∷ other))
 
 -- the same of emitters, which keep their scope
-module _ (p : ℕ) (c : Condition) (x : Statement) {m₀ m₁ m₂ m₃ : Emitter} (n : ℕ) (tested : Emits m₀ (condition_code m₀.scope c) m₁) (en : n ≡ length m₁.code.items) (gapped : Emits m₁ ((JumpIfZero 0, p) ∷ []) m₂) (made : Emits m₂ (statement_code m₂.scope x (suc (length m₂.code.items))) m₃) where
+pub guards : (p : ℕ) (c : Condition) (x : Statement) {m₀ m₁ m₂ m₃ : Emitter} (n : ℕ) → Emits m₀ (condition_code m₀.scope c) m₁ → n ≡ length m₁.code.items → Emits m₁ ((JumpIfZero 0, p) ∷ []) m₂ →
+    Emits m₂ (statement_code m₂.scope x (suc (length m₂.code.items))) m₃ → Guards m₀ p c x n m₃
+guards p c x {m₀} {m₁} {m₂} {m₃} n tested en gapped made =
+    let old : Code = m₀.code.items in
+    let test : Code = condition_code m₀.scope c in
+    let gap : Instruction × ℕ = (JumpIfZero 0, p) in
+    let kept : m₂.scope ≡ m₀.scope = gapped.scope ∙ tested.scope in
+    let front : m₂.code.items ≡ old ++ (test ++ (gap ∷ [])) = twice old test (gap ∷ []) tested.code gapped.code in
+    let spot : n ≡ length old + length test = en ∙ ap length tested.code ∙ length-append old test in
+    record {
+      emits = record {
+        scope = made.scope ∙ kept;
+        code =
+            twice old (test ++ (gap ∷ [])) (statement_code m₀.scope x (suc (past (suc (length old)) test))) front
+            (made.code ∙ (λ i. m₂.code.items ++ statement_code (kept i) x (end gap old test [] n front spot i)))
+            ∙ ap (λ l. old ++ l) (append_assoc test (gap ∷ []) (statement_code m₀.scope x (suc (past (suc (length old)) test))));
+      };
+      stands = spot;
+    }
+
+module _ (p : ℕ) (c : Condition) (x : Statement) {m₀ m₃ : Emitter} (n : ℕ) (g : Guards m₀ p c x n m₃) where
   abbrev condition : Code
   condition = condition_code m₀.scope c
 
-  abbrev statement : ℕ → Code
-  statement = statement_code m₀.scope x
-
-  kept : m₂.scope ≡ m₀.scope
-  kept = gapped.scope ∙ tested.scope
-
-  with_body : m₃.code.items ≡ m₂.code.items ++ statement (suc (length m₂.code.items))
-  with_body = made.code ∙ ap (λ s. m₂.code.items ++ statement_code s x (suc (length m₂.code.items))) kept
+  abbrev body : Code
+  body = statement_code m₀.scope x (suc (past (suc (length m₀.code.items)) condition))
 
   pub emits_if : (t : ℕ) {m₄ : Emitter} → t ≡ suc (length m₃.code.items) → m₄.scope ≡ m₃.scope → m₄.code.items ≡ set m₃.code.items n (JumpIfZero t, p) →
       Emits m₀ (if_code m₀.scope p c x (suc (length m₀.code.items))) m₄
   emits_if t et scope patched = record {
-    scope = scope ∙ made.scope ∙ kept;
-    code = if_made p m₀.code.items condition statement n tested.code en gapped.code with_body t et patched;
+    scope = scope ∙ g.emits.scope;
+    code = if_made p m₀.code.items condition body n g.emits.code g.stands t et patched;
   }
 
   pub emits_while : (s t : ℕ) {m₄ m₅ : Emitter} → s ≡ suc (length m₀.code.items) → Emits m₃ ((Jump s, p) ∷ []) m₄ → t ≡ suc (length m₄.code.items) → m₅.scope ≡ m₄.scope → m₅.code.items ≡ set m₄.code.items n (JumpIfZero t, p) →
       Emits m₀ (while_code m₀.scope p c x (suc (length m₀.code.items))) m₅
   emits_while s t es back et scope patched = record {
-    scope = scope ∙ back.scope ∙ made.scope ∙ kept;
-    code = while_made p m₀.code.items condition statement n tested.code en gapped.code with_body s t es back.code et patched;
+    scope = scope ∙ back.scope ∙ g.emits.scope;
+    code = while_made p m₀.code.items condition body n g.emits.code g.stands s t es back.code et patched;
   }
 
   pub emits_if_else : (q : ℕ) (y : Statement) (m t u : ℕ) {m₄ m₅ m₆ m₇ : Emitter} → m ≡ length m₃.code.items → Emits m₃ ((Jump 0, q) ∷ []) m₄ →
@@ -157,19 +157,35 @@ module _ (p : ℕ) (c : Condition) (x : Statement) {m₀ m₁ m₂ m₃ : Emitte
   emits_if_else q y m t u {m₄} {m₅} em over eu same branched other et scope patched = record {
     scope = scope ∙ other.scope ∙ until;
     code =
-        else_made p m₀.code.items condition statement n tested.code en gapped.code with_body q (statement_code m₀.scope y) m u em over.code eu branched
+        else_made p m₀.code.items condition body n g.emits.code g.stands q (statement_code m₀.scope y) m u em over.code eu branched
         (other.code ∙ ap (λ s. m₅.code.items ++ statement_code s y (suc (length m₅.code.items))) until) t et patched;
   }
     where
       until : m₅.scope ≡ m₀.scope
-      until = same ∙ over.scope ∙ made.scope ∙ kept
+      until = same ∙ over.scope ∙ g.emits.scope
 
--- statements one after another
-pub emits_then : (x : Statement) (xs : Statements) {m₀ m₁ m₂ : Emitter} → Emits m₀ (statement_code m₀.scope x (suc (length m₀.code.items))) m₁ → Emits m₁ (statements_code m₁.scope xs (suc (length m₁.code.items))) m₂ →
-    Emits m₀ (let a : Code = statement_code m₀.scope x (suc (length m₀.code.items)) in a ++ statements_code m₀.scope xs (past (suc (length m₀.code.items)) a)) m₂
-emits_then x xs {m₀} {m₁} first rest = record {
-  scope = rest.scope ∙ first.scope;
-  code =
-      followed m₀.code.items (statement_code m₀.scope x (suc (length m₀.code.items))) (statements_code m₀.scope xs) first.code
-      (rest.code ∙ ap (λ s. m₁.code.items ++ statements_code s xs (suc (length m₁.code.items))) first.scope);
+-- m₁ has put the code of some statements, and the code of those left makes up the code of all
+pub record Left (m₀ m₁ : Emitter) (all left : List Statement) : Type 0 where
+  pub scope : m₁.scope ≡ m₀.scope
+  pub code : m₁.code.items ++ statements_code m₀.scope left (suc (length m₁.code.items)) ≡ m₀.code.items ++ statements_code m₀.scope all (suc (length m₀.code.items))
+
+pub one_less : (all : List Statement) (i : ℕ) (x : Statement) {m₀ m₁ m₂ : Emitter} → i < length all → x ≡ get_or all i x → Left m₀ m₁ all (drop i all) → Emits m₁ (statement_code m₁.scope x (suc (length m₁.code.items))) m₂ →
+    Left m₀ m₂ all (drop (i + 1) all)
+one_less all i x {m₀} {m₁} {m₂} h is left put =
+    let a : ℕ = suc (length m₁.code.items) in
+    let rest : ℕ → Code = statements_code m₀.scope (drop (i + 1) all) in
+    let here : m₂.code.items ≡ m₁.code.items ++ statement_code m₀.scope x a = put.code ∙ ap (λ s. m₁.code.items ++ statement_code s x a) left.scope in
+    record {
+      scope = put.scope ∙ left.scope;
+      code =
+          followed m₁.code.items (statement_code m₀.scope x a) rest here refl
+          ∙ ap (λ y. m₁.code.items ++ statements_code m₀.scope (y ∷ drop (i + 1) all) a) is
+          ∙ sym (at_drop_more (λ l. m₁.code.items ++ statements_code m₀.scope l a) all i x h)
+          ∙ left.code;
+    }
+
+pub none_left : (all : List Statement) (i : ℕ) {m₀ m₁ : Emitter} → length all ≤ i → Left m₀ m₁ all (drop i all) → Emits m₀ (statements_code m₀.scope all (suc (length m₀.code.items))) m₁
+none_left all i {m₀} {m₁} h left = record {
+  scope = left.scope;
+  code = sym (append-nil m₁.code.items) ∙ sym (at_drop_all (λ l. m₁.code.items ++ statements_code m₀.scope l (suc (length m₁.code.items))) all i h) ∙ left.code;
 }

@@ -2,13 +2,12 @@
 --   factor_code, term_code, expression_code, condition_code  the code of a piece
 --   statement_code, statements_code                          the code of statements that stand at an address
 --   if_code, if_else_code, while_code                        the same of a statement by its parts
-use Rattle.std.specs.Prelude.{ℕ}
+use Rattle.std.specs.Prelude.{ℕ, List}
 use Rattle.syntax.specs.declared.tree.Factor.{Factor}
 use Rattle.syntax.specs.declared.tree.Term.{Term}
 use Rattle.syntax.specs.declared.tree.Expression.{Expression}
 use Rattle.syntax.specs.declared.tree.Condition.{Condition}
 use Rattle.syntax.specs.declared.tree.Statement.{Statement}
-use Rattle.syntax.specs.declared.tree.Statements.{Statements}
 use Rattle.syntax.specs.Trees as Tree
 use Rattle.syntax.specs.Trees.{when, either, while}
 use Rattle.syntax.specs.TreeOf.{factor_of, term_of, expression_of, condition_of, statement_of, statements_of}
@@ -32,7 +31,7 @@ condition_code s c = code_of_condition (cells_of_condition (table_of s) (conditi
 abbrev pub statement_code : Scope → Statement → ℕ → Code
 statement_code s x a = code_of_statement (cells_of_statement (table_of s) (statement_of s.source.now x)) a
 
-abbrev pub statements_code : Scope → Statements → ℕ → Code
+abbrev pub statements_code : Scope → List Statement → ℕ → Code
 statements_code s xs a = code_of_statements (cells_of_statements (table_of s) (statements_of s.source.now xs)) a
 
 module _ (s : Scope) where

@@ -3,6 +3,7 @@ pub mod Linear
 pub mod Published
 pub mod Emitters
 pub mod Emitted
+pub mod Guarded
 pub mod Written
 pub mod Examples
 pub mod Bounds

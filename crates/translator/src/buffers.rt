@@ -13,8 +13,7 @@ fn fill(buffer: &mut [u32], words: &[u32])
     requires { length words.now ≤ length buffer.old }
     ensures { Written words.now buffer.old buffer.new }
 {
-    let count = words.len();
-    buffer[0..count].copy_from_slice(words);
+    buffer[..words.len()].copy_from_slice(words);
 }
 
 // Answers the length of the code. The buffers are lent, since callers translate into memory that is theirs already.

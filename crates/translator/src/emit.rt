@@ -40,6 +40,7 @@ pub fn words_of(heap: Global, code: &[Placed]) -> Result<Vec<u32>, Failure>
     ensures range { OnOk result (Fits code.now) }
     ensures len { IfOk result (λ v. vec_len v ≡ length code.now) }
 {
+    // A loop, since after a chain with try_collect the check finds each word but not that each instruction has one.
     let mut words = Vec::new(heap);
     for (instruction, _) in code {
         words.push(word(*instruction)?)?;

@@ -1,14 +1,32 @@
 // The code of statements. A jump forward is put with no target, which is filled in once it is known.
-ghost use Rattle.std.specs.Prelude.{suc, length, OnOk};
+ghost use Rattle.std.specs.Prelude.{suc, length, IfOk, OnOk};
 ghost use Rattle.translator.specs.Emitted.{statement_code, statements_code, if_code, if_else_code, while_code};
+ghost use Rattle.translator.specs.Guarded.{Guards};
 ghost use Rattle.translator.specs.Emitters.{Emits};
 
 use crate::emitter::Emitter;
 use crate::failure::Failure;
 use code::Instruction;
-use syntax::tree::{Condition, Statement, Statements};
+use syntax::tree::{Condition, Statement};
 
 impl Emitter<'_> {
+    // A condition, a jump for when it is false, and a body. Answers where the jump stands, which has no target yet.
+    #[cycle(statement_emitters)]
+    fn guarded(
+        &mut self,
+        place: u32,
+        condition: &Condition,
+        body: &Statement,
+    ) -> Result<usize, Failure>
+        ensures { IfOk result (λ jump. Guards self.old place condition.now body.now jump self.new) }
+    {
+        self.condition(condition)?;
+        let jump = self.code.len();
+        self.put(Instruction::JumpIfZero(0), place)?;
+        self.statement(body)?;
+        Ok(jump)
+    }
+
     #[cycle(statement_emitters)]
     fn if_statement(
         &mut self,
@@ -18,10 +36,7 @@ impl Emitter<'_> {
     ) -> Result<(), Failure>
         ensures { OnOk result (Emits self.old (if_code self.old.scope place condition.now body.now (suc (length self.old.code.items))) self.new) }
     {
-        self.condition(condition)?;
-        let branch = self.code.len();
-        self.put(Instruction::JumpIfZero(0), place)?;
-        self.statement(body)?;
+        let branch = self.guarded(place, condition, body)?;
         let end = self.next_address()?;
         self.patch(branch, Instruction::JumpIfZero(end), place);
         Ok(())
@@ -38,10 +53,7 @@ impl Emitter<'_> {
     ) -> Result<(), Failure>
         ensures { OnOk result (Emits self.old (if_else_code self.old.scope place condition.now body.now else_place else_body.now (suc (length self.old.code.items))) self.new) }
     {
-        self.condition(condition)?;
-        let branch = self.code.len();
-        self.put(Instruction::JumpIfZero(0), place)?;
-        self.statement(body)?;
+        let branch = self.guarded(place, condition, body)?;
         let skip = self.code.len();
         self.put(Instruction::Jump(0), else_place)?;
         let second = self.next_address()?;
@@ -62,10 +74,7 @@ impl Emitter<'_> {
         ensures { OnOk result (Emits self.old (while_code self.old.scope place condition.now body.now (suc (length self.old.code.items))) self.new) }
     {
         let start = self.next_address()?;
-        self.condition(condition)?;
-        let branch = self.code.len();
-        self.put(Instruction::JumpIfZero(0), place)?;
-        self.statement(body)?;
+        let branch = self.guarded(place, condition, body)?;
         self.put(Instruction::Jump(start), place)?;
         let exit = self.next_address()?;
         self.patch(branch, Instruction::JumpIfZero(exit), place);
@@ -105,15 +114,12 @@ impl Emitter<'_> {
     }
 
     #[cycle(statement_emitters)]
-    pub fn statements(&mut self, statements: &Statements) -> Result<(), Failure>
+    pub fn statements(&mut self, statements: &[Statement]) -> Result<(), Failure>
         ensures { OnOk result (Emits self.old (statements_code self.old.scope statements.now (suc (length self.old.code.items))) self.new) }
     {
-        match statements {
-            Statements::Nothing => Ok(()),
-            Statements::Then(statement, rest) => {
-                self.statement(statement)?;
-                self.statements(rest)
-            }
+        for statement in statements {
+            self.statement(statement)?;
         }
+        Ok(())
     }
 }

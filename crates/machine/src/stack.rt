@@ -1,11 +1,22 @@
 // How instructions use the stack.
 ghost use Rattle.std.specs.Prelude.{◌≡◌, suc, ◌<◌, ◌≤◌, ◌∷◌, drop, OnOk};
-ghost use Rattle.machine.specs.View.{stack_of, Stacked, Operands, Popped};
+ghost use Rattle.machine.specs.View.{stack_of, Room, Stacked, Operands, Popped};
 
 use crate::fault::Cause;
 use crate::run::{Core, Memory};
 
 impl<U, I, O> Memory<U, I, O> {
+    // Whether the stack has room for one word more.
+    pub(crate) fn room(&self, core: &Core) -> Result<(), Cause>
+        ensures words { Room (stack_of core.now self.now) result }
+        ensures space { OnOk result (core.now.depth < 68) }
+    {
+        if core.depth >= 68 {
+            return Err(Cause::StackFull);
+        }
+        Ok(())
+    }
+
     // Puts a word on the stack, and goes on.
     pub(crate) fn push(&mut self, core: &mut Core, v: i32)
         requires room { core.old.depth < 68 }

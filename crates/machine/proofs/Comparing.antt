@@ -1,17 +1,12 @@
 -- Comparisons by the sign of the difference.
-use Rattle.std.proofs.Common.{◌≡◌, ℕ, zero, suc, Bool, true, false, not, eqb, List, drop, ℤ, pos, negsuc, ◌-ℤ◌, sym, refl, ap, ◌∙◌, arith, w64, SFits, to_z, of_z}
+use Rattle.std.proofs.Common.{◌≡◌, zero, suc, Bool, true, false, not, eqb, ℤ, pos, negsuc, ◌-ℤ◌, refl, ap, arith, w64, SFits, to_z, of_z}
 use borrow.Author.Differences.{ints}
 use lib.Signed.{lt_z, le_z}
 use Rattle.std.proofs.lemmas.Int.{to_z-of_z}
 use Rattle.std.proofs.lemmas.Bool.Decides.{nat_tests}
-use Rattle.code.specs.World.{World}
-use Rattle.code.specs.Machine.{pop_two, comparison, by_sign}
-use Rattle.machine.specs.View.{truth, Word, Two}
+use Rattle.code.specs.Machine.{by_sign}
+use Rattle.machine.specs.View.{truth, Word}
 use Rattle.machine.proofs.Stacks.{word_fits}
-
-pub compared : (a : ℕ) (st : List ℤ) (w : World) (x y : ℤ) (l e g : ℕ) (b : Bool) → Two st x y → truth b ≡ by_sign l e g (x -ℤ y) → pop_two st w (λ u v r. comparison a r w (by_sign l e g (u -ℤ v))) ≡ comparison a (drop 2 st) w (truth b)
-compared a st w x y l e g b t k =
-    ap (λ s. pop_two s w (λ u v r. comparison a r w (by_sign l e g (u -ℤ v)))) t.words ∙ ap (comparison a (drop 2 st) w) (sym k)
 
 less_at : (x y z : ℤ) → x -ℤ y ≡ z → truth (lt_z x y) ≡ by_sign 1 0 0 z
 less_at x y (negsuc n) e = ap truth (let b : lt_z x y ≡ true = grind (arith, ints) in b)

@@ -1,5 +1,4 @@
 pub mod Stacks
-pub mod Doing
 pub mod Comparing
 pub mod Operating
 pub mod Fetching

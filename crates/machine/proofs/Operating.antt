@@ -1,17 +1,11 @@
 -- Operations on two words, and what fits 64 bits.
-use Rattle.std.proofs.Common.{◌≡◌, ℕ, zero, suc, ◌+◌, ◌*◌, ◌^◌, ◌<◌, ◌≤◌, List, drop, ℤ, pos, negsuc, ◌-ℤ◌, ◌*ℤ◌, neg_ℤ, Option, sym, ap, ◌∙◌, mul-le-mul, div-le_self, arith, w64, SFits, to_z, of_z, rules}
+use Rattle.std.proofs.Common.{◌≡◌, ℕ, zero, suc, ◌+◌, ◌*◌, ◌^◌, ◌<◌, ◌≤◌, ℤ, pos, negsuc, ◌-ℤ◌, ◌*ℤ◌, neg_ℤ, ap, ◌∙◌, mul-le-mul, div-le_self, arith, w64, SFits, to_z, of_z, rules}
 use borrow.Author.Differences.{ints}
 use lib.Signed.{mag}
 use Rattle.std.proofs.lemmas.Int.{to_z-of_z}
-use Rattle.code.specs.World.{World}
 use Rattle.code.specs.Division.{quotient, remainder}
-use Rattle.code.specs.Machine.{pop_two, push}
-use Rattle.machine.specs.View.{Word, Two}
+use Rattle.machine.specs.View.{Word}
 use Rattle.machine.proofs.Stacks.{word_fits}
-
-pub operated : (a : ℕ) (st : List ℤ) (w : World) (narrow : ℤ → Option ℤ) (f : ℤ → ℤ → ℤ) (x y u : ℤ) → Two st x y → u ≡ f x y → pop_two st w (λ v z r. push a r w 23 (narrow (f v z))) ≡ push a (drop 2 st) w 23 (narrow u)
-operated a st w narrow f x y u t k =
-    ap (λ s. pop_two s w (λ v z r. push a r w 23 (narrow (f v z)))) t.words ∙ ap (λ z. push a (drop 2 st) w 23 (narrow z)) (sym k)
 
 mag_neg : (n : ℕ) → mag (neg_ℤ (pos n)) ≤ n
 mag_neg zero = omega arith

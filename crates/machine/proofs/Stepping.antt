@@ -1,5 +1,5 @@
 -- What a step comes to, by status and instruction.
-use Rattle.std.proofs.Common.{◌≡◌, ℕ, suc, ◌+◌, ◌-◌, ◌<◌, ◌≤◌, Bool, true, false, cond, ltb, List, length, ℤ, is_ok, Some, None, Ok, Err, Option, Result, sym, refl, ap, ◌∙◌, add-one, arith}
+use Rattle.std.proofs.Common.{◌≡◌, ◌≢◌, ℕ, suc, ◌+◌, ◌-◌, ◌<◌, ◌≤◌, Bool, true, false, cond, ltb, List, length, ℤ, is_ok, Some, None, Ok, Err, Option, Result, sym, refl, ap, ◌∙◌, add-one, arith}
 use Rattle.std.proofs.lemmas.Bool.Decides.{nat_tests}
 use Rattle.tapes.specs.Meaning.{Meaning}
 use Rattle.code.specs.declared.Instruction.{Instruction}
@@ -13,6 +13,7 @@ use Rattle.machine.specs.declared.fault.Cause.{Cause}
 use Rattle.machine.specs.declared.fault.Fault.{Fault}
 use Rattle.machine.specs.declared.run.Core.{Core}
 use Rattle.machine.specs.declared.run.Memory.{Memory}
+use Rattle.machine.specs.declared.status.Status.{Status}
 use Rattle.machine.specs.declared.status.Status.TheVariants.{Running, Ended, Faulted, AtLid}
 use Rattle.code.proofs.Moving.{once_ended, once_faulted, moves_stuck, moves_last}
 use Rattle.machine.proofs.Fetching.{fetch_past}
@@ -38,6 +39,10 @@ ended_past None len counter steps limit e = by (ltb len counter) refl (ltb steps
     by false h true k = let z : ◌≡◌ {A = ℕ} 0 1 = cc in absurd (omega arith)
     by false h false k = let z : ◌≡◌ {A = ℕ} 0 1 = cc in absurd (omega arith)
 
+at_limit : (f : Option Fault) (len counter steps limit : ℕ) → AtLid ≡ status_of f len counter steps limit → limit ≤ steps
+at_limit (Some f) len counter steps limit e = let z : ◌≡◌ {A = ℕ} 0 1 = cc in absurd (omega arith)
+at_limit None len counter steps limit e = grind (arith, nat_tests)
+
 module _ {U I O : Type 0} (unit : ArithmeticUnit) (code : List Instruction) (waiting : I → List ℤ) (means : O → Meaning) (limit : ℕ) where
   idle : (a : Core) (m : Memory U I O) → once unit code (run_of waiting means a m) ≡ run_of waiting means a m → Stepped unit waiting means code limit a m false a m
   idle a m e =
@@ -49,10 +54,10 @@ module _ {U I O : Type 0} (unit : ArithmeticUnit) (code : List Instruction) (wai
   pub none_there : (a : Core) (m : Memory U I O) → None ≡ fetch code a.counter → Stepped unit waiting means code limit a m false a m
   none_there a m e = idle a m (once_ended unit code (run_of waiting means a m) (sym e))
 
-  pub has_ended : (a : Core) (m : Memory U I O) → Ended ≡ status_of a.fault (length code) a.counter a.steps limit → Stepped unit waiting means code limit a m false a m
+  has_ended : (a : Core) (m : Memory U I O) → Ended ≡ status_of a.fault (length code) a.counter a.steps limit → Stepped unit waiting means code limit a m false a m
   has_ended a m e = none_there a m (sym (fetch_past code a.counter (ended_past a.fault (length code) a.counter a.steps limit e)))
 
-  pub has_faulted : (a : Core) (m : Memory U I O) → Faulted ≡ status_of a.fault (length code) a.counter a.steps limit → Stepped unit waiting means code limit a m false a m
+  has_faulted : (a : Core) (m : Memory U I O) → Faulted ≡ status_of a.fault (length code) a.counter a.steps limit → Stepped unit waiting means code limit a m false a m
   has_faulted a m e = by a.fault refl e
     where
       by : (f : Option Fault) → a.fault ≡ f → Faulted ≡ status_of f (length code) a.counter a.steps limit → Stepped unit waiting means code limit a m false a m
@@ -63,6 +68,14 @@ module _ {U I O : Type 0} (unit : ArithmeticUnit) (code : List Instruction) (wai
           clash true d h' = let z : ◌≡◌ {A = ℕ} 0 1 = cc in absurd (omega arith)
           clash false true h' = let z : ◌≡◌ {A = ℕ} 0 1 = cc in absurd (omega arith)
           clash false false h' = let z : ◌≡◌ {A = ℕ} 0 1 = cc in absurd (omega arith)
+
+  pub not_running : (a : Core) (m : Memory U I O) (s : Status) → s ≡ status_of a.fault (length code) a.counter a.steps limit → s ≢ Running → Stepped unit waiting means code limit a m false a m
+  not_running a m Running e ne = absurd (ne refl)
+  not_running a m Ended e ne = has_ended a m e
+  not_running a m Faulted e ne = has_faulted a m e
+  not_running a m AtLid e ne =
+      let none : 0 ≡ limit - a.steps = omega (arith, at_limit a.fault (length code) a.counter a.steps limit e) in
+      record { moved = record { rests = ap (λ n. moves unit code n (run_of waiting means a m)) none; counted = refl }; kept = omega arith }
 
   abbrev at : Memory U I O → ℕ → ℕ → ℕ → Option Fault → am.Run
   at n k d s f = record { counter = k; stack = tops n.stack d; world = world_of waiting means n; steps = s; fault = fault_of f }

@@ -7,11 +7,12 @@
 --   closed     a state after an instruction's answer: a step more, or a fault at its address
 --   Done       an instruction came to this step
 --   Acted      an instruction was executed as the meaning of code says
+--   Room       the stack has room for one word more, or it is full
 --   Stacked    counter and stack alone became these
 --   Operands   the two upper words, the left one first
 --   Popped     the top word
 --   truth      the word of an answer
-use Rattle.std.specs.Prelude.{◌≡◌, ℕ, zero, suc, ◌<◌, Bool, true, false, List, [], ◌∷◌, length, drop, ℤ, pos, negsuc, ◌≤ℤ◌, Some, None, Ok, Err, Option, Result, slice_index_or}
+use Rattle.std.specs.Prelude.{◌≡◌, ℕ, zero, suc, ◌<◌, Bool, true, false, List, [], ◌∷◌, length, drop, ℤ, pos, negsuc, ◌≤ℤ◌, Some, None, Ok, Err, Option, Result, nat_lt, slice_index_or}
 use Rattle.tapes.specs.Meaning.{Meaning, KeptAtRest}
 use Rattle.code.specs.declared.Instruction.{Instruction}
 use Rattle.code.specs.World.{ArithmeticUnit, Tapes, World}
@@ -19,7 +20,7 @@ use Rattle.code.specs.Machine.{Step, execute, stepped}
 use Rattle.code.specs.Machine as am
 use Rattle.machine.specs.Numbers.{pinch_numbers, cause_of, fault_of}
 use Rattle.machine.specs.declared.fault.Cause.{Cause}
-use Rattle.machine.specs.declared.fault.Cause.TheVariants.{TooFewWords}
+use Rattle.machine.specs.declared.fault.Cause.TheVariants.{TooFewWords, StackFull}
 use Rattle.machine.specs.declared.run.Core.{Core}
 use Rattle.machine.specs.declared.run.Memory.{Memory}
 
@@ -55,6 +56,10 @@ pub record Done {U I O X : Type 0} (waiting : I → List ℤ) (means : O → Mea
 
 abbrev pub Acted : {U I O X : Type 0} → ArithmeticUnit → (I → List ℤ) → (O → Meaning) → Instruction → Core → Memory U I O → Result X Cause → Core → Memory U I O → Type 0
 Acted unit waiting means i a m r b n = Done waiting means (execute unit i a.counter (stack_of a m) (world_of waiting means m)) a m r b n
+
+abbrev pub Room : {X : Type 0} → List ℤ → Result X Cause → Type 0
+Room st (Ok x) = nat_lt (length st) 68 ≡ true
+Room st (Err c) = (c ≡ StackFull) × (nat_lt (length st) 68 ≡ false)
 
 -- from a over m to b over n
 pub record Stacked {U I O : Type 0} (counter : ℕ) (stack : List ℤ) (a : Core) (m : Memory U I O) (b : Core) (n : Memory U I O) : Type 0 where

@@ -2,6 +2,7 @@
 #![tactic(auto)]
 
 pub mod calls;
+mod cell;
 mod division;
 pub mod fault;
 pub mod finish;

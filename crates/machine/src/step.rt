@@ -72,82 +72,10 @@ impl Core {
         let Some(instruction) = instruction_at(code, self.counter) else {
             return false;
         };
-        match (self.status(code.len(), limit), instruction) {
-            (Status::Running, Instruction::Literal(z)) => {
-                let done = self.literal(memory, z);
-                self.close(done)
-            }
-            (Status::Running, Instruction::Read(n)) => {
-                let done = self.read(memory, n);
-                self.close(done)
-            }
-            (Status::Running, Instruction::Write(n)) => {
-                let done = self.write(memory, n);
-                self.close(done)
-            }
-            (Status::Running, Instruction::Load(n)) => {
-                let done = self.load(memory, n);
-                self.close(done)
-            }
-            (Status::Running, Instruction::Store(n)) => {
-                let done = self.store(memory, n);
-                self.close(done)
-            }
-            (Status::Running, Instruction::Jump(n)) => {
-                let done = self.jump(memory, n);
-                self.close(done)
-            }
-            (Status::Running, Instruction::JumpIfZero(n)) => {
-                let done = self.jump_if_zero(memory, n);
-                self.close(done)
-            }
-            (Status::Running, Instruction::Add) => {
-                let done = self.add(memory);
-                self.close(done)
-            }
-            (Status::Running, Instruction::Subtract) => {
-                let done = self.subtract(memory);
-                self.close(done)
-            }
-            (Status::Running, Instruction::Multiply) => {
-                let done = self.multiply(memory);
-                self.close(done)
-            }
-            (Status::Running, Instruction::Divide) => {
-                let done = self.divide(memory);
-                self.close(done)
-            }
-            (Status::Running, Instruction::Modulo) => {
-                let done = self.modulo(memory);
-                self.close(done)
-            }
-            (Status::Running, Instruction::Less) => {
-                let done = self.less(memory);
-                self.close(done)
-            }
-            (Status::Running, Instruction::Equal) => {
-                let done = self.equal(memory);
-                self.close(done)
-            }
-            (Status::Running, Instruction::Unequal) => {
-                let done = self.unequal(memory);
-                self.close(done)
-            }
-            (Status::Running, Instruction::Greater) => {
-                let done = self.greater(memory);
-                self.close(done)
-            }
-            (Status::Running, Instruction::AtMost) => {
-                let done = self.at_most(memory);
-                self.close(done)
-            }
-            (Status::Running, Instruction::AtLeast) => {
-                let done = self.at_least(memory);
-                self.close(done)
-            }
-            (Status::Ended, _) => false,
-            (Status::Faulted, _) => false,
-            (Status::AtLid, _) => false,
+        if self.status(code.len(), limit) != Status::Running {
+            return false;
         }
+        let done = memory.execute(self, instruction);
+        self.close(done)
     }
 }

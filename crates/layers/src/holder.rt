@@ -27,7 +27,7 @@ impl<O: OutputTape> Holder<O> {
 
     // The tape below, with all that was written passed down to it.
     pub fn into_below(mut self) -> O
-        ensures { Moved (holder_means self.held.items (O.OutputTape.means self.below)) (holder_means [] (O.OutputTape.means result)) }
+        ensures { Moved (⟦<Holder<O> as OutputTape>⟧.means self) (holder_means [] (O.OutputTape.means result)) }
     {
         self.pass_down();
         let Holder { below, held: _ } = self;
@@ -37,7 +37,7 @@ impl<O: OutputTape> Holder<O> {
     // Passes down the held words.
     fn pass_down(&mut self)
         ensures empty { self.new.held.items ≡ [] }
-        ensures moved { Moved (holder_means self.old.held.items (O.OutputTape.means self.old.below)) (holder_means [] (O.OutputTape.means self.new.below)) }
+        ensures moved { Moved (⟦<Holder<O> as OutputTape>⟧.means self.old) (⟦<Holder<O> as OutputTape>⟧.means self.new) }
     {
         send(&mut self.below, &self.held);
         self.held.clear();

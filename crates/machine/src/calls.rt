@@ -49,7 +49,7 @@ impl<'a, U: Arithmetic, I: InputTape, O: OutputTape> Run<'a, U, I, O> {
 
     // Makes up to an allowance of steps. One that has ended or faulted, or is at its lid, makes none.
     pub fn advance(&mut self, allowance: u32) -> Advanced
-        ensures moved { state_of I.waiting O.means self.new ≡ advance (unit_of U.least U.greatest U.narrowed) (code_of self.old) self.old.lid allowance (state_of I.waiting O.means self.old) }
+        ensures moved { state_of I.waiting O.means self.new ≡ advance (unit_of U.LEAST U.GREATEST U.narrowed) (code_of self.old) self.old.lid allowance (state_of I.waiting O.means self.old) }
         ensures image { self.new.image ≡ self.old.image }
         ensures lid { self.new.lid ≡ self.old.lid }
         ensures steps { self.new.core.steps ≡ self.old.core.steps + result.steps }

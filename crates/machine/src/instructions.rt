@@ -21,7 +21,7 @@ impl<U: Arithmetic, I: InputTape, O: OutputTape> Memory<U, I, O> {
     pub(crate) fn execute(&mut self, core: &mut Core, instruction: Instruction) -> Result<(), Cause>
         requires sound { (len : ℕ) × (inside len instruction ≡ true) }
         requires placed { core.old.counter ≤ 4096 }
-        ensures { Acted (unit_of U.least U.greatest U.narrowed) I.waiting O.means instruction core.old self.old result core.new self.new }
+        ensures { Acted (unit_of U.LEAST U.GREATEST U.narrowed) I.waiting O.means instruction core.old self.old result core.new self.new }
     {
         match instruction {
             Instruction::Literal(z) => self.literal(core, z),
@@ -57,7 +57,7 @@ impl<U: Arithmetic, I: InputTape, O: OutputTape> Memory<U, I, O> {
 
     fn literal(&mut self, core: &mut Core, z: i32) -> Result<(), Cause>
         requires placed { core.old.counter ≤ 4096 }
-        ensures { Acted (unit_of U.least U.greatest U.narrowed) I.waiting O.means (Literal z) core.old self.old result core.new self.new }
+        ensures { Acted (unit_of U.LEAST U.GREATEST U.narrowed) I.waiting O.means (Literal z) core.old self.old result core.new self.new }
     {
         self.room(core)?;
         let v = self.unit.narrow(i64::from(z)).ok_or(Cause::OutOfRange)?;
@@ -67,7 +67,7 @@ impl<U: Arithmetic, I: InputTape, O: OutputTape> Memory<U, I, O> {
 
     fn load(&mut self, core: &mut Core, cell: Cell) -> Result<(), Cause>
         requires placed { core.old.counter ≤ 4096 }
-        ensures { Acted (unit_of U.least U.greatest U.narrowed) I.waiting O.means (Load cell.number) core.old self.old result core.new self.new }
+        ensures { Acted (unit_of U.LEAST U.GREATEST U.narrowed) I.waiting O.means (Load cell.number) core.old self.old result core.new self.new }
     {
         self.room(core)?;
         let v = self.cells[cell.index()].ok_or(Cause::Unset)?;
@@ -77,7 +77,7 @@ impl<U: Arithmetic, I: InputTape, O: OutputTape> Memory<U, I, O> {
 
     fn store(&mut self, core: &mut Core, cell: Cell) -> Result<(), Cause>
         requires placed { core.old.counter ≤ 4096 }
-        ensures { Acted (unit_of U.least U.greatest U.narrowed) I.waiting O.means (Store cell.number) core.old self.old result core.new self.new }
+        ensures { Acted (unit_of U.LEAST U.GREATEST U.narrowed) I.waiting O.means (Store cell.number) core.old self.old result core.new self.new }
     {
         let v = self.pop(core)?;
         self.cells[cell.index()] = Some(v);
@@ -87,7 +87,7 @@ impl<U: Arithmetic, I: InputTape, O: OutputTape> Memory<U, I, O> {
 
     fn read(&mut self, core: &mut Core, cell: Cell) -> Result<(), Cause>
         requires placed { core.old.counter ≤ 4096 }
-        ensures { Acted (unit_of U.least U.greatest U.narrowed) I.waiting O.means (Read cell.number) core.old self.old result core.new self.new }
+        ensures { Acted (unit_of U.LEAST U.GREATEST U.narrowed) I.waiting O.means (Read cell.number) core.old self.old result core.new self.new }
     {
         let x = self.input.take().ok_or(Cause::NoInput)?;
         let v = self.unit.narrow(i64::from(x)).ok_or(Cause::OutOfRange)?;
@@ -98,7 +98,7 @@ impl<U: Arithmetic, I: InputTape, O: OutputTape> Memory<U, I, O> {
 
     fn write(&mut self, core: &mut Core, cell: Cell) -> Result<(), Cause>
         requires placed { core.old.counter ≤ 4096 }
-        ensures { Acted (unit_of U.least U.greatest U.narrowed) I.waiting O.means (Write cell.number) core.old self.old result core.new self.new }
+        ensures { Acted (unit_of U.LEAST U.GREATEST U.narrowed) I.waiting O.means (Write cell.number) core.old self.old result core.new self.new }
     {
         let v = self.cells[cell.index()].ok_or(Cause::Unset)?;
         self.output.put(v)?;

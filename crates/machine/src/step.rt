@@ -67,7 +67,7 @@ impl Core {
     ) -> bool
         requires few { length code.now ≤ 4096 }
         requires sound { all_inside (length code.now) code.now ≡ true }
-        ensures { Stepped (unit_of U.least U.greatest U.narrowed) I.waiting O.means code.now limit self.old memory.old result self.new memory.new }
+        ensures { Stepped (unit_of U.LEAST U.GREATEST U.narrowed) I.waiting O.means code.now limit self.old memory.old result self.new memory.new }
     {
         let Some(instruction) = instruction_at(code, self.counter) else {
             return false;

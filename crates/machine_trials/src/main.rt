@@ -251,9 +251,9 @@ impl Arithmetic for Hundred {
 
     const GREATEST: i32 = 100;
 
-    ghost least = { negsuc 99 };
+    ghost LEAST = { negsuc 99 };
 
-    ghost greatest = { pos 100 };
+    ghost GREATEST = { pos 100 };
 
     ghost narrowed = { strict (negsuc 99) (pos 100) };
 
@@ -264,14 +264,6 @@ impl Arithmetic for Hundred {
     ghost keeps = { strict_keeps (negsuc 99) (pos 100) };
 
     ghost inside = { strict_inside (negsuc 99) (pos 100) };
-
-    fn lowest() -> i32 {
-        Self::LEAST
-    }
-
-    fn highest() -> i32 {
-        Self::GREATEST
-    }
 
     fn narrow(&self, x: i64) -> Option<i32> {
         if x < -100 || x > 100 {

@@ -6,8 +6,8 @@ use Rattle.std.proofs.lemmas.List.{at_drop_more}
 use Rattle.syntax.specs.Tokens.{Name}
 use Rattle.syntax.specs.TreeOf.{statement_of, statements_of}
 use Rattle.syntax.specs.declared.tree.Statement.{Statement}
-use Rattle.names.specs.declared.refusal.Refusal.{Refusal}
-use Rattle.names.specs.declared.refusal.Refusal.TheVariants as refusal
+use Rattle.names.specs.declared.refusals.Refusal.{Refusal}
+use Rattle.names.specs.declared.refusals.Refusal.TheVariants as refusal
 use Rattle.names.specs.Cells.{Entries, name_at, cell_of, Undeclared, Looked}
 use Rattle.syntax.specs.Trees.{Program}
 use Rattle.names.specs.Declares as refuses

@@ -6,8 +6,8 @@
 --   place_of      the place of a refusal
 --   Refuses       what a refusal of a declaration says
 use Rattle.std.specs.Prelude.{◌≡◌, ℕ, ◌+◌, ◌<◌, ◌≤◌, length, Some, ◌≢◌}
-use Rattle.names.specs.declared.refusal.Refusal.{Refusal}
-use Rattle.names.specs.declared.refusal.Refusal.TheVariants as refusal
+use Rattle.names.specs.declared.refusals.Refusal.{Refusal}
+use Rattle.names.specs.declared.refusals.Refusal.TheVariants as refusal
 use Rattle.names.specs.Cells.{Entries, name_at, place_at, cell_of}
 
 abbrev pub Apart : Entries → ℕ → Type 0

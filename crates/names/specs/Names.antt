@@ -5,8 +5,8 @@
 use Rattle.std.specs.Prelude.{Result, MatchResult}
 use Rattle.syntax.specs.Tokens.{Name}
 use Rattle.syntax.specs.Trees.{Program}
-use Rattle.names.specs.declared.refusal.Refusal.{Refusal}
-use Rattle.names.specs.declared.refusal.Refusal.TheVariants as refusal
+use Rattle.names.specs.declared.refusals.Refusal.{Refusal}
+use Rattle.names.specs.declared.refusals.Refusal.TheVariants as refusal
 use Rattle.names.specs.Declares as declares
 use Rattle.names.specs.Declares.{Declaration}
 use Rattle.names.specs.Uses.{uses_in_statements, AllDeclared, FirstUndeclared}

@@ -8,8 +8,8 @@
 use Rattle.std.specs.Prelude.{◌≡◌, ℕ, ◌<◌, cond, List, [], ◌∷◌, ◌++◌, length, is_some, Some, None, Ok, Err, Option, Result}
 use Rattle.syntax.specs.Tokens.{Name}
 use Rattle.syntax.specs.Trees.{Factor, name, number, paren, Term, one, times, Expression, first, minus, more, Condition, test, Statement, assign, scan, print, when, either, while, block, Statements, none, then}
-use Rattle.names.specs.declared.refusal.Refusal.{Refusal}
-use Rattle.names.specs.declared.refusal.Refusal.TheVariants as refusal
+use Rattle.names.specs.declared.refusals.Refusal.{Refusal}
+use Rattle.names.specs.declared.refusals.Refusal.TheVariants as refusal
 use Rattle.names.specs.Cells.{Entries, name_at, place_at, cell_of, Undeclared}
 
 module _ {N : Type 0} where

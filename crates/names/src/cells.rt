@@ -6,7 +6,7 @@ ghost use Rattle.names.specs.Cells.{cell_of, Looked};
 ghost use Rattle.names.specs.Declares.{Declaration, Refuses};
 ghost use Rattle.names.specs.Scopes.{entries};
 
-use crate::refusal::Refusal;
+use crate::refusals::Refusal;
 use syntax::tree::Name;
 
 const MAX_NAMES: usize = 64;

@@ -5,11 +5,11 @@ ghost use Rattle.syntax.specs.TreeOf.{tree_of};
 ghost use Rattle.names.specs.Names.{Answers};
 
 pub mod cells;
-pub mod refusal;
+pub mod refusals;
 mod uses;
 
 use cells::Scope;
-use refusal::Refusal;
+use refusals::Refusal;
 use syntax::tree::Program;
 
 // Whether the names of a program are declared as they should be, and each name in the statements is.

@@ -1,7 +1,8 @@
 // What is answered of a program's names, and the number and the place that a refusal is told by.
 use crate::cells::Scope;
 use crate::check_names;
-use crate::refusal::Refusal;
+use crate::refusals::Refusal;
+use refusal::Refused;
 use std::alloc::{AllocError, Global};
 use std::process::Abort;
 use std::test::Fail;
@@ -43,7 +44,11 @@ fn told(rt: HostRuntime) {
         (Refusal::Repeated(6), 7, 6),
         (Refusal::Undeclared(2), 8, 2),
     ] {
-        assert_eq!(rt; (refusal.number(), refusal.place()), (*number, *place));
+        let told = Refused {
+            number: *number,
+            place: *place,
+        };
+        assert_eq!(rt; Refused::from(*refusal), told);
     }
 }
 

@@ -7,7 +7,7 @@ ghost use Rattle.names.specs.Scopes.{entries};
 ghost use Rattle.names.specs.Uses.{uses_in_factor, uses_in_term, uses_in_expression, uses_in_condition, uses_in_statement, uses_in_statements, first_undeclared, outcome};
 
 use crate::cells::Scope;
-use crate::refusal::Refusal;
+use crate::refusals::Refusal;
 use syntax::tree::{Condition, Expression, Factor, Name, Statement, Term};
 
 impl Scope<'_> {

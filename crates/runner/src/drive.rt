@@ -34,8 +34,8 @@ pub fn drive<U: Arithmetic, I: InputTape, O: OutputTape>(
     lid: u64,
     allowances: &[u32],
 ) -> Driven<U, I, O>
-    ensures report { (places : List ℕ) → report_of I.waiting O.means places result.finished ≡ finish lid image.now.code.items places (advances (unit_of U.least U.greatest U.narrowed) image.now.code.items lid allowances.now (start (tapes_of (I.waiting input) (O.means output)))) }
-    ensures meant { MeansSources (unit_of U.least U.greatest U.narrowed) (tapes_of (I.waiting input) (O.means output)) lid allowances.now image.now.code.items (λ places. report_of I.waiting O.means places result.finished) }
+    ensures report { (places : List ℕ) → report_of I.waiting O.means places result.finished ≡ finish lid image.now.code.items places (advances (unit_of U.LEAST U.GREATEST U.narrowed) image.now.code.items lid allowances.now (start (tapes_of (I.waiting input) (O.means output)))) }
+    ensures meant { MeansSources (unit_of U.LEAST U.GREATEST U.narrowed) (tapes_of (I.waiting input) (O.means output)) lid allowances.now image.now.code.items (λ places. report_of I.waiting O.means places result.finished) }
     ensures steps { result.steps ≡ result.finished.steps }
     ensures last { LastOf allowances.now result.last (status_number result.finished.status) }
     ensures rest { (O.means result.finished.output).rest ≡ length (O.means result.finished.output).written }

@@ -6,8 +6,8 @@ use Rattle.std.specs.Prelude.{◌≡◌, ℕ, List, Ok, Err, Result}
 use Rattle.syntax.specs.Tokens.{Name}
 use Rattle.syntax.specs.Trees.{Program}
 use Rattle.names.specs.Names.{Named, Refuses}
-use Rattle.translator.specs.declared.refusal.Refusal.{Refusal}
-use Rattle.translator.specs.declared.refusal.Refusal.TheVariants.{Naming, TooMuchCode, SmallBuffer, NoMemory}
+use Rattle.translator.specs.declared.refusals.Refusal.{Refusal}
+use Rattle.translator.specs.declared.refusals.Refusal.TheVariants.{Naming, TooMuchCode, SmallBuffer, NoMemory}
 use Rattle.translator.specs.Linear.{Code}
 use Rattle.translator.specs.Published.{trans, linearise}
 use Rattle.translator.specs.Written.{Stored, Unstored}

@@ -3,8 +3,8 @@
 --   place_of    the place of a refusal
 use Rattle.std.specs.Prelude.{ℕ}
 use Rattle.names.specs.Declares as names
-use Rattle.translator.specs.declared.refusal.Refusal.{Refusal}
-use Rattle.translator.specs.declared.refusal.Refusal.TheVariants.{Naming, TooMuchCode, SmallBuffer, NoMemory}
+use Rattle.translator.specs.declared.refusals.Refusal.{Refusal}
+use Rattle.translator.specs.declared.refusals.Refusal.TheVariants.{Naming, TooMuchCode, SmallBuffer, NoMemory}
 
 abbrev pub number_of : Refusal → ℕ
 number_of (Naming e) = names.number_of e

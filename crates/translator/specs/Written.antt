@@ -10,8 +10,8 @@ use Rattle.std.specs.Prelude.{◌≡◌, ℕ, ◌<◌, ◌≤◌, ◌⊎◌, Lis
 use Rattle.std.specs.List.{AllByRecursion}
 use Rattle.code.specs.declared.Instruction.{Instruction}
 use Rattle.code.specs.Words.{word_of, InRange}
-use Rattle.translator.specs.declared.refusal.Refusal.{Refusal}
-use Rattle.translator.specs.declared.refusal.Refusal.TheVariants.{Naming, TooMuchCode, SmallBuffer, NoMemory}
+use Rattle.translator.specs.declared.refusals.Refusal.{Refusal}
+use Rattle.translator.specs.declared.refusals.Refusal.TheVariants.{Naming, TooMuchCode, SmallBuffer, NoMemory}
 use Rattle.translator.specs.Linear as linear
 use Rattle.translator.specs.Linear.{Code}
 

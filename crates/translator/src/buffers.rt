@@ -4,7 +4,7 @@ ghost use Rattle.translator.specs.Written.{Written, Outcome};
 
 use crate::emit::{places_of, words_of};
 use crate::emitter::Placed;
-use crate::refusal::Refusal;
+use crate::refusals::Refusal;
 use std::alloc::Global;
 
 const MAX_CODE: usize = 4096;

@@ -12,7 +12,7 @@ mod expressions;
 mod failure;
 mod instructions;
 pub mod program;
-pub mod refusal;
+pub mod refusals;
 mod statements;
 
 // The published translation has jumps to tree addresses; linearised it is the linear code, which the emitters make.

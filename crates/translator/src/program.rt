@@ -4,7 +4,7 @@ ghost use Rattle.translator.specs.Outcomes.{ProgramOutcome};
 
 use crate::buffers::store;
 use crate::emit::emit;
-use crate::refusal::Refusal;
+use crate::refusals::Refusal;
 use names::check_names;
 use std::alloc::Global;
 use syntax::tree::Program;

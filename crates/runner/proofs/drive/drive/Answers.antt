@@ -26,7 +26,7 @@ loop-allowance-preserved g c =
     let inv = c.loop-allowance.invariant in
     let told = c.advance-advanced.ensures in
     let view = state_of g.I.InputTape.waiting g.O.OutputTape.means in
-    let unit = unit_of g.U.Arithmetic.least g.U.Arithmetic.greatest g.U.Arithmetic.narrowed in
+    let unit = unit_of g.U.Arithmetic.LEAST g.U.Arithmetic.GREATEST g.U.Arithmetic.narrowed in
     let run = c.loop-allowance.run in
     let after = c.advance-advanced.new.self in
     let first = c.start-run.result in
@@ -46,7 +46,7 @@ pub returns : goal.returns
 returns g c =
     let inv = c.loop-allowance.invariant in
     let view = state_of g.I.InputTape.waiting g.O.OutputTape.means in
-    let unit = unit_of g.U.Arithmetic.least g.U.Arithmetic.greatest g.U.Arithmetic.narrowed in
+    let unit = unit_of g.U.Arithmetic.LEAST g.U.Arithmetic.GREATEST g.U.Arithmetic.narrowed in
     let run = c.loop-allowance.run in
     let first = c.start-run.result in
     let xs = c.args.allowances.now in

@@ -10,7 +10,7 @@ use Rattle.runner.proofs.drive.drive.Given as goal
 abbrev pub invariant-loop-allowance : goal.invariant-loop-allowance
 invariant-loop-allowance g l =
     let view = state_of g.I.InputTape.waiting g.O.OutputTape.means in
-    let unit = unit_of g.U.Arithmetic.least g.U.Arithmetic.greatest g.U.Arithmetic.narrowed in
+    let unit = unit_of g.U.Arithmetic.LEAST g.U.Arithmetic.GREATEST g.U.Arithmetic.narrowed in
     let code = code_of l.initial.run in
     let lid = l.initial.run.lid in
     let before = take l.allowance-index l.allowances in

@@ -10,7 +10,7 @@ use Rattle.machine.proofs.run.Run.advance.Goals as goal
 
 pub returns-then-is_some : goal.returns-then-is_some
 returns-then-is_some g c =
-    let unit = unit_of g.U.Arithmetic.least g.U.Arithmetic.greatest g.U.Arithmetic.narrowed in
+    let unit = unit_of g.U.Arithmetic.LEAST g.U.Arithmetic.GREATEST g.U.Arithmetic.narrowed in
     let run = c.args.self.now in
     let view = state_of g.I.InputTape.waiting g.O.OutputTape.means run in
     let e = c.if-is_some.ensures in
@@ -25,7 +25,7 @@ returns-then-is_some g c =
 
 pub loop-self-preserved : goal.loop-self-preserved
 loop-self-preserved g c =
-    let unit = unit_of g.U.Arithmetic.least g.U.Arithmetic.greatest g.U.Arithmetic.narrowed in
+    let unit = unit_of g.U.Arithmetic.LEAST g.U.Arithmetic.GREATEST g.U.Arithmetic.narrowed in
     let inv = c.loop-self.invariant in
     let made = made_of _ _ _ _ _ _ _ _ _ _ c.step.ensures c.loop-self-test.true in (
       step_more unit _ _ _ _ _ _ _ inv.1 made.counted inv.0 made.ran,
@@ -38,7 +38,7 @@ loop-self-preserved g c =
 
 pub returns : goal.returns
 returns g c =
-    let unit = unit_of g.U.Arithmetic.least g.U.Arithmetic.greatest g.U.Arithmetic.narrowed in
+    let unit = unit_of g.U.Arithmetic.LEAST g.U.Arithmetic.GREATEST g.U.Arithmetic.narrowed in
     let run = c.args.self.now in
     let view = state_of g.I.InputTape.waiting g.O.OutputTape.means run in
     let code = c.instructions-code.result.now in

@@ -6,7 +6,7 @@ use Rattle.machine.proofs.run.Run.advance.Given as goal
 
 abbrev pub invariant-loop-self : goal.invariant-loop-self
 invariant-loop-self g l =
-    let unit = unit_of g.U.Arithmetic.least g.U.Arithmetic.greatest g.U.Arithmetic.narrowed in
+    let unit = unit_of g.U.Arithmetic.LEAST g.U.Arithmetic.GREATEST g.U.Arithmetic.narrowed in
     let view = run_of g.I.InputTape.waiting g.O.OutputTape.means in
     (view l.core l.self.memory ≡ moves unit l.code (l.core.steps - l.before) (view l.initial.core l.initial.self.memory))
     × (l.before ≤ l.core.steps)

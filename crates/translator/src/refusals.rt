@@ -1,14 +1,15 @@
 // Why a source has no code to give.
 ghost use Rattle.std.specs.Prelude.{◌≡◌};
-ghost use Rattle.translator.specs.declared.refusal.Refusal.TheVariants.{Naming, NoMemory};
+ghost use Rattle.translator.specs.declared.refusals.Refusal.TheVariants.{Naming, NoMemory};
 ghost use Rattle.translator.specs.Refusals.{number_of, place_of};
 
 use crate::failure::Failure;
+use refusal::Refused;
 use std::alloc::AllocError;
 
 #[derive(Clone, Copy, PartialEq, Eq, Debug)]
 pub enum Refusal {
-    Naming(names::refusal::Refusal),
+    Naming(names::refusals::Refusal),
     // over 4,096 instructions; the place of the first one too many
     TooMuchCode(u32),
     // a buffer is shorter than the code
@@ -16,27 +17,19 @@ pub enum Refusal {
     NoMemory,
 }
 
-impl Refusal {
-    // The number of the question that is answered no, or 40.
-    pub fn number(&self) -> u32
-        ensures { result ≡ number_of self.now }
-    {
-        match self {
-            Refusal::Naming(refusal) => refusal.number(),
-            Refusal::TooMuchCode(_) => 9,
-            Refusal::SmallBuffer => 10,
-            Refusal::NoMemory => 40,
-        }
-    }
+impl From<Refusal> for Refused {
+    ghost from_gives = { λ e r. (r.number ≡ number_of e) × (r.place ≡ place_of e) };
 
-    // A place in the source.
-    pub fn place(&self) -> u32
-        ensures { result ≡ place_of self.now }
-    {
-        match self {
-            Refusal::Naming(refusal) => refusal.place(),
-            Refusal::TooMuchCode(place) => *place,
-            Refusal::SmallBuffer | Refusal::NoMemory => 0,
+    fn from(e: Refusal) -> Refused {
+        let (number, place) = match e {
+            Refusal::Naming(refusal) => return refusal.into(),
+            Refusal::TooMuchCode(place) => (9, place),
+            Refusal::SmallBuffer => (10, 0),
+            Refusal::NoMemory => (40, 0),
+        };
+        Refused {
+            number,
+            place: place as usize,
         }
     }
 }
@@ -49,10 +42,10 @@ impl From<AllocError> for Refusal {
     }
 }
 
-impl From<names::refusal::Refusal> for Refusal {
+impl From<names::refusals::Refusal> for Refusal {
     ghost from_gives = { λ x y. y ≡ Naming x };
 
-    fn from(refusal: names::refusal::Refusal) -> Refusal {
+    fn from(refusal: names::refusals::Refusal) -> Refusal {
         Refusal::Naming(refusal)
     }
 }

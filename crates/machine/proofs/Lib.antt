@@ -1,4 +1,5 @@
 pub mod Stacks
+pub mod Doing
 pub mod Comparing
 pub mod Operating
 pub mod Fetching

@@ -7,7 +7,7 @@ use Rattle.code.specs.World.{ArithmeticUnit}
 use Rattle.code.specs.Machine.{execute, stepped, once_with, once, moves, fetch}
 use Rattle.code.specs.Machine as am
 use Rattle.machine.specs.Numbers.{cause_of, fault_of}
-use Rattle.machine.specs.View.{stack_of, world_of, tops, run_of, closed, Acted}
+use Rattle.machine.specs.View.{words_of, world_of, run_of, closed, Acted}
 use Rattle.machine.specs.Steps.{status_of, Closed, Made, Halted, OneStep, Stepped}
 use Rattle.machine.specs.declared.fault.Cause.{Cause}
 use Rattle.machine.specs.declared.fault.Fault.{Fault}
@@ -77,20 +77,20 @@ module _ {U I O : Type 0} (unit : ArithmeticUnit) (code : List Instruction) (wai
       let none : 0 ≡ limit - a.steps = omega (arith, at_limit a.fault (length code) a.counter a.steps limit e) in
       record { moved = record { rests = ap (λ n. moves unit code n (run_of waiting means a m)) none; counted = refl }; kept = omega arith }
 
-  abbrev at : Memory U I O → ℕ → ℕ → ℕ → Option Fault → am.Run
-  at n k d s f = record { counter = k; stack = tops n.stack d; world = world_of waiting means n; steps = s; fault = fault_of f }
+  abbrev at : Memory U I O → ℕ → ℕ → Option Fault → am.Run
+  at n k s f = record { counter = k; stack = words_of n.stack; world = world_of waiting means n; steps = s; fault = fault_of f }
 
-  same_at : (n : Memory U I O) (k k' d d' s s' : ℕ) (f f' : Option Fault) → k ≡ k' → d ≡ d' → s ≡ s' → f ≡ f' → at n k d s f ≡ at n k' d' s' f'
-  same_at n k k' d d' s s' f f' ek ed es ef =
-      ap (λ x. at n x d s f) ek ∙ ap (λ x. at n k' x s f) ed ∙ ap (λ x. at n k' d' x f) es ∙ ap (λ (x : Option Fault). at n k' d' s' x) ef
+  same_at : (n : Memory U I O) (k k' s s' : ℕ) (f f' : Option Fault) → k ≡ k' → s ≡ s' → f ≡ f' → at n k s f ≡ at n k' s' f'
+  same_at n k k' s s' f f' ek es ef =
+      ap (λ x. at n x s f) ek ∙ ap (λ x. at n k' x f) es ∙ ap (λ (x : Option Fault). at n k' s' x) ef
 
   close_is : {X : Type 0} (r : Result X Cause) (b e : Core) (n : Memory U I O) → b.fault ≡ None → Closed r b e → run_of waiting means e n ≡ closed r (run_of waiting means b n)
   close_is (Ok x) b e n clear c =
-      same_at n e.counter b.counter e.depth b.depth e.steps (suc b.steps) e.fault None c.counter c.depth (c.steps ∙ add-one b.steps) (c.fault ∙ clear)
+      same_at n e.counter b.counter e.steps (suc b.steps) e.fault None c.counter (c.steps ∙ add-one b.steps) (c.fault ∙ clear)
   close_is (Err q) b e n clear c =
-      same_at n e.counter b.counter e.depth b.depth e.steps b.steps e.fault _ c.counter c.depth c.steps c.fault
+      same_at n e.counter b.counter e.steps b.steps e.fault _ c.counter c.steps c.fault
 
-  once_acted : (a : Core) (m : Memory U I O) (i : Instruction) → a.fault ≡ None → Some i ≡ fetch code a.counter → once unit code (run_of waiting means a m) ≡ stepped (run_of waiting means a m) (execute unit i a.counter (stack_of a m) (world_of waiting means m))
+  once_acted : (a : Core) (m : Memory U I O) (i : Instruction) → a.fault ≡ None → Some i ≡ fetch code a.counter → once unit code (run_of waiting means a m) ≡ stepped (run_of waiting means a m) (execute unit i a.counter (words_of m.stack) (world_of waiting means m))
   once_acted a m i clear e =
       let p = run_of waiting means a m in
       ap (once_with unit p p.fault) (sym e) ∙ ap (λ f. once_with unit p (fault_of f) (Some i)) clear

@@ -1,5 +1,6 @@
 -- What a step makes of a run's registers and memory.
 --   status_of  the first that fits: faulted, ended, at the limit, running
+--   Went       the registers once the counter has left a done instruction
 --   Closed     the registers after an instruction's answer
 --   Stepped    a call that says whether it made a step
 use Rattle.std.specs.Prelude.{◌≡◌, ℕ, ◌+◌, ◌-◌, ◌<◌, Bool, true, false, cond, List, ℤ, Some, None, Ok, Err, Option, Result, nat_lt}
@@ -27,9 +28,17 @@ abbrev pub fault_by : {X : Type 0} → Result X Cause → ℕ → Option Fault �
 fault_by (Ok x) address f = f
 fault_by (Err c) address f = Some (record { cause = c; address = address })
 
+abbrev pub counter_by : {X : Type 0} → Result X Cause → ℕ → ℕ
+counter_by (Ok x) n = n + 1
+counter_by (Err c) n = n
+
+pub record Went {X : Type 0} (done : Result X Cause) (a b : Core) : Type 0 where
+  pub counter : b.counter ≡ counter_by done a.counter
+  pub steps : b.steps ≡ a.steps
+  pub fault : b.fault ≡ a.fault
+
 pub record Closed {X : Type 0} (done : Result X Cause) (a b : Core) : Type 0 where
   pub counter : b.counter ≡ a.counter
-  pub depth : b.depth ≡ a.depth
   pub steps : b.steps ≡ steps_by done a.steps
   pub fault : b.fault ≡ fault_by done a.counter a.fault
 

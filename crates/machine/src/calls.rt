@@ -6,7 +6,7 @@ ghost use Rattle.machine.specs.Numbers.{status_number};
 ghost use Rattle.machine.specs.View.{unit_of, tapes_of};
 ghost use Rattle.machine.specs.Runs.{code_of, state_of};
 
-use crate::run::{Core, Memory, Run};
+use crate::run::{Core, Memory, Run, Stack};
 use crate::status::Status;
 use image::admitted::Image;
 use tapes::input::InputTape;
@@ -33,7 +33,6 @@ impl<'a, U: Arithmetic, I: InputTape, O: OutputTape> Run<'a, U, I, O> {
             lid,
             core: Core {
                 counter: 1,
-                depth: 0,
                 steps: 0,
                 fault: None,
             },
@@ -42,7 +41,7 @@ impl<'a, U: Arithmetic, I: InputTape, O: OutputTape> Run<'a, U, I, O> {
                 input,
                 output,
                 cells: [None; 64],
-                stack: [0; 68],
+                stack: Stack::new(),
             },
         }
     }

@@ -35,11 +35,7 @@ impl<'a, U: Arithmetic, I: InputTape, O: OutputTape> Run<'a, U, I, O> {
     pub fn word(&self, place: usize) -> Option<i32>
         ensures { result ≡ nth (state_of I.waiting O.means self.now).stack place }
     {
-        let depth = self.core.depth as usize;
-        if place >= depth {
-            return None;
-        }
-        Some(self.memory.stack[depth - 1 - place])
+        self.memory.stack.word(place)
     }
 
     // The cells, from cell 1 on.

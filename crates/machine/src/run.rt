@@ -4,16 +4,21 @@ ghost use Rattle.std.specs.Prelude.{◌^◌, ◌<◌, ◌≤◌};
 use crate::fault::Fault;
 use image::admitted::Image;
 
-// What an advance keeps at hand. The widths of counter and depth differ, so that the compiler keeps each in a register
-// of its own.
+// What an advance keeps at hand: beside Memory, so that the compiler keeps counter and steps in registers.
 #[derive(Clone, Copy)]
 pub struct Core {
     pub(crate) counter: usize,
-    pub(crate) depth: u8,
     pub(crate) steps: u64,
     pub(crate) fault: Option<Fault>,
-    ghost stacked: { depth ≤ 68 },
     ghost counted: { 1 ≤ counter },
+}
+
+// At most 68 words, the last of the first `depth` on top.
+#[derive(Drop)]
+pub struct Stack {
+    pub(crate) words: [i32; 68],
+    pub(crate) depth: usize,
+    ghost bounded: { depth ≤ 68 },
 }
 
 // What the instructions work on.
@@ -23,7 +28,7 @@ pub struct Memory<U, I, O> {
     pub(crate) input: I,
     pub(crate) output: O,
     pub(crate) cells: [Option<i32>; 64],
-    pub(crate) stack: [i32; 68],
+    pub(crate) stack: Stack,
 }
 
 #[derive(Drop)]

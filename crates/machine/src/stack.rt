@@ -1,65 +1,79 @@
 // How instructions use the stack.
-ghost use Rattle.std.specs.Prelude.{◌≡◌, suc, ◌<◌, ◌≤◌, ◌∷◌, drop, OnOk};
-ghost use Rattle.machine.specs.View.{stack_of, Room, Stacked, Operands, Popped};
+ghost use Rattle.std.specs.Prelude.{◌≡◌, ◌<◌, ◌≤◌, [], ◌∷◌, drop, OnOk};
+ghost use Rattle.code.specs.Machine.{nth};
+ghost use Rattle.machine.specs.View.{words_of, Room, Operands, Popped};
 
 use crate::fault::Cause;
-use crate::run::{Core, Memory};
+use crate::run::Stack;
 
-impl<U, I, O> Memory<U, I, O> {
-    // Whether the stack has room for one word more.
-    pub(crate) fn room(&self, core: &Core) -> Result<(), Cause>
-        ensures words { Room (stack_of core.now self.now) result }
-        ensures space { OnOk result (core.now.depth < 68) }
+impl Stack {
+    pub(crate) fn new() -> Stack
+        ensures { words_of result ≡ [] }
     {
-        if core.depth >= 68 {
+        Stack {
+            words: [0; 68],
+            depth: 0,
+        }
+    }
+
+    // Whether there is room for one word more.
+    pub(crate) fn room(&self) -> Result<(), Cause>
+        ensures words { Room (words_of self.now) result }
+        ensures space { OnOk result (self.now.depth < 68) }
+    {
+        if self.depth >= 68 {
             return Err(Cause::StackFull);
         }
         Ok(())
     }
 
-    // Puts a word on the stack, and goes on.
-    pub(crate) fn push(&mut self, core: &mut Core, v: i32)
-        requires room { core.old.depth < 68 }
-        requires placed { core.old.counter ≤ 4096 }
-        ensures { Stacked (suc core.old.counter) (v ∷ stack_of core.old self.old) core.old self.old core.new self.new }
+    pub(crate) fn push(&mut self, v: i32)
+        requires room { self.old.depth < 68 }
+        ensures { words_of self.new ≡ v ∷ words_of self.old }
     {
-        self.stack[core.depth as usize] = v;
-        core.depth += 1;
-        core.counter += 1;
+        self.words[self.depth] = v;
+        self.depth += 1;
+    }
+
+    pub(crate) fn pop(&mut self) -> Result<i32, Cause>
+        ensures { Popped (words_of self.old) result (words_of self.new) }
+    {
+        if self.depth == 0 {
+            return Err(Cause::TooFewWords);
+        }
+        self.depth -= 1;
+        Ok(self.words[self.depth])
     }
 
     // The two upper words, widened; the upper one is the right operand.
-    pub(crate) fn operands(&self, core: &Core) -> Result<(i64, i64), Cause>
-        ensures words { Operands (stack_of core.now self.now) result }
-        ensures deep { OnOk result (2 ≤ core.now.depth) }
+    pub(crate) fn operands(&self) -> Result<(i64, i64), Cause>
+        ensures words { Operands (words_of self.now) result }
+        ensures deep { OnOk result (2 ≤ self.now.depth) }
     {
-        if core.depth < 2 {
+        if self.depth < 2 {
             return Err(Cause::TooFewWords);
         }
-        let left = self.stack[core.depth as usize - 2];
-        let right = self.stack[core.depth as usize - 1];
+        let left = self.words[self.depth - 2];
+        let right = self.words[self.depth - 1];
         Ok((i64::from(left), i64::from(right)))
     }
 
-    // Takes the top word off.
-    pub(crate) fn pop(&self, core: &mut Core) -> Result<i32, Cause>
-        ensures { Popped (stack_of core.old self.now) result core.old self.now core.new }
+    // Puts a word in the place of the two upper ones.
+    pub(crate) fn replace(&mut self, v: i32)
+        requires two { 2 ≤ self.old.depth }
+        ensures { words_of self.new ≡ v ∷ drop 2 (words_of self.old) }
     {
-        if core.depth == 0 {
-            return Err(Cause::TooFewWords);
-        }
-        core.depth -= 1;
-        Ok(self.stack[core.depth as usize])
+        self.words[self.depth - 2] = v;
+        self.depth -= 1;
     }
 
-    // Puts a word in the place of the two upper ones, and goes on.
-    pub(crate) fn replace(&mut self, core: &mut Core, v: i32)
-        requires two { 2 ≤ core.old.depth }
-        requires placed { core.old.counter ≤ 4096 }
-        ensures { Stacked (suc core.old.counter) (v ∷ drop 2 (stack_of core.old self.old)) core.old self.old core.new self.new }
+    // The word at a place; the top has place 0.
+    pub(crate) fn word(&self, place: usize) -> Option<i32>
+        ensures { result ≡ nth (words_of self.now) place }
     {
-        self.stack[core.depth as usize - 2] = v;
-        core.depth -= 1;
-        core.counter += 1;
+        if place >= self.depth {
+            return None;
+        }
+        Some(self.words[self.depth - 1 - place])
     }
 }

@@ -3,7 +3,7 @@ ghost use Rattle.std.specs.Prelude.{◌≡◌, ◌-◌, ◌^◌, ◌<◌, ◌≤
 ghost use Rattle.code.specs.Machine.{fetch};
 ghost use Rattle.image.specs.Bounds.{all_inside};
 ghost use Rattle.machine.specs.View.{unit_of};
-ghost use Rattle.machine.specs.Steps.{status_of, Closed, Stepped};
+ghost use Rattle.machine.specs.Steps.{status_of, Went, Closed, Stepped};
 
 use crate::fault::{Cause, Fault};
 use crate::run::{Core, Memory};
@@ -35,6 +35,18 @@ impl Core {
         } else {
             Status::Running
         }
+    }
+
+    // On to the next address, if an instruction was done.
+    pub(crate) fn go_on(&mut self, done: Result<(), Cause>) -> Result<(), Cause>
+        requires placed { self.old.counter ≤ 4096 }
+        ensures went { Went done self.old self.new }
+        ensures same { result ≡ done }
+    {
+        if done.is_ok() {
+            self.counter += 1;
+        }
+        done
     }
 
     // Counts a step, or keeps the fault; whether it was a step.

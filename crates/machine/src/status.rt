@@ -4,21 +4,16 @@ ghost use Rattle.machine.specs.Numbers.{status_number};
 
 #[derive(Clone, Copy, PartialEq, Eq, Debug)]
 pub enum Status {
-    Running,
-    Ended,
-    Faulted,
-    AtLid,
+    Running = 0,
+    Ended = 1,
+    Faulted = 2,
+    AtLid = 3,
 }
 
 impl Status {
     pub fn number(self) -> u8
         ensures { result ≡ status_number self }
     {
-        match self {
-            Status::Running => 0,
-            Status::Ended => 1,
-            Status::Faulted => 2,
-            Status::AtLid => 3,
-        }
+        self as u8
     }
 }

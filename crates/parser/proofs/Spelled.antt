@@ -1,6 +1,8 @@
 -- How the trees of what is read join to the tree of an expression.
 use Rattle.std.proofs.Common.{◌≡◌, ℕ, suc, ◌≤◌, List, ◌∷◌, Some, None, Option, sym, ap, ◌∙◌, subst, arith}
 use Rattle.syntax.specs.Trees.{Expression, first, minus, more, Term, one, times, Factor, name, number, paren}
+use Rattle.syntax.specs.TreeOf.{name_of}
+use Rattle.syntax.specs.declared.tree.Name as coded
 use Rattle.grammar.specs.Kinds.{Name, Kind, Token, kinds, Additive, Plus, Minus, Multiplicative}
 use Rattle.grammar.specs.Kinds as kind
 use Rattle.grammar.specs.Grammar as parse
@@ -36,6 +38,10 @@ module _ (p : ℕ) where
 
   pub variable_spelled : {us vs : List Token} {i : Name} {n : ℕ} → us ≡ token_at (kind.name i) n ∷ vs → IsFactor us (name i n) vs
   variable_spelled {i = i} e = record { tree = parse.variable i; tokens = ap kinds e; placed = ap (factor_at (parse.variable i)) e; fits = omega arith }
+
+  -- as a name of the code that is the one read
+  pub name_spelled : (source : List ℕ) {us vs : List Token} {n m : coded.Name} → n ≡ m → us ≡ token_at (kind.name (name_of source m)) m.place ∷ vs → IsFactor us (name (name_of source n) n.place) vs
+  name_spelled source {us} {vs} same e = subst (λ n. IsFactor us (name (name_of source n) n.place) vs) (sym same) (variable_spelled e)
 
   pub literal_spelled : {us vs : List Token} {v n : ℕ} → us ≡ token_at (kind.number v) n ∷ vs → IsFactor us (number v n) vs
   literal_spelled {v = v} e = record { tree = parse.literal v; tokens = ap kinds e; placed = ap (factor_at (parse.literal v)) e; fits = omega arith }

@@ -7,7 +7,7 @@ ghost use Rattle.parser.specs.Readers.{Fewer, ReadsFactor, ReadsParenthesized, R
 use crate::reader::{Reader, deeper};
 use crate::refusal::Refusal;
 use syntax::token::{Additive, Kind, Mark};
-use syntax::tree::{Expression, Factor, Name, Term};
+use syntax::tree::{Expression, Factor, Term};
 
 impl Reader<'_> {
     // `term` has a loop like this one: one for both would take closures for operator, operand and node, and be longer.
@@ -57,10 +57,7 @@ impl Reader<'_> {
     {
         let token = self.next()?;
         match token.kind {
-            Kind::Name => Ok(Factor::Variable(Name {
-                place: token.place,
-                length: token.length,
-            })),
+            Kind::Name => Ok(Factor::Variable(token.into())),
             Kind::Number(value) => Ok(Factor::Number {
                 value,
                 place: token.place,

@@ -104,10 +104,7 @@ impl Reader<'_> {
         ensures fewer { Fewer self.old result self.new }
     {
         self.need(|token| match token.kind {
-            Kind::Name => Some(Name {
-                place: token.place,
-                length: token.length,
-            }),
+            Kind::Name => Some(token.into()),
             _ => None,
         })
     }

@@ -1,11 +1,25 @@
 // The syntax tree. Each node keeps the places of the tokens that its instructions are blamed on.
-use crate::token::{Additive, Multiplicative, Relation};
+ghost use Rattle.std.specs.Prelude.{◌≡◌};
+ghost use Rattle.syntax.specs.TreeOf.{named};
+
+use crate::token::{Additive, Multiplicative, Relation, Token};
 
 // Where a name stands in the source.
 #[derive(Clone, Copy, PartialEq, Eq, Debug)]
 pub struct Name {
     pub place: u32,
     pub length: u32,
+}
+
+impl From<Token> for Name {
+    ghost from_gives = { λ token name. name ≡ named token };
+
+    fn from(token: Token) -> Name {
+        Name {
+            place: token.place,
+            length: token.length,
+        }
+    }
 }
 
 #[cycle(factor)]

@@ -4,7 +4,7 @@ use Rattle.grammar.specs.Kinds.{LeftParen}
 use Rattle.grammar.specs.Automaton.{at_paren, factor, products}
 use Rattle.parser.specs.Reads.{ahead}
 use Rattle.parser.proofs.Feeds.{gone, onward, read_as, read_mark, peeked_fewer, taken, at_paren_lem, number_read, sign_read, sum_read, no_sum, product_read, no_product, paren_read}
-use Rattle.parser.proofs.Spelled.{refitted, products_end, sums_end, variable_spelled, literal_spelled, paren_spelled, term_spelled, product_spelled, sum_spelled, expression_spelled}
+use Rattle.parser.proofs.Spelled.{refitted, products_end, sums_end, name_spelled, literal_spelled, paren_spelled, term_spelled, product_spelled, sum_spelled, expression_spelled}
 use Rattle.parser.proofs.reader.Reader.+expression_readers.Goals as goal
 
 pub expression-returns-in_err-term-clause-reads : goal.expression-returns-in_err-term-clause-reads
@@ -41,7 +41,7 @@ expression-returns-clause-reads t c = λ source x s.
 pub factor-returns-in-Name-clause-reads : goal.factor-returns-in-Name-clause-reads
 factor-returns-in-Name-clause-reads t c = λ source x s.
     let name = read_as source c.in_ok-token.ensures.read c.in-Name.is in
-    (taken name (factor c.args.parens x ∷ s) (products c.args.parens x ∷ s) refl, variable_spelled c.args.parens name)
+    (taken name (factor c.args.parens x ∷ s) (products c.args.parens x ∷ s) refl, name_spelled c.args.parens source c.into.ensures name)
 
 pub factor-returns-in-Number-clause-reads : goal.factor-returns-in-Number-clause-reads
 factor-returns-in-Number-clause-reads t c = λ source x s.

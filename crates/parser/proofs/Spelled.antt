@@ -1,5 +1,5 @@
 -- How the trees of what is read join to the tree of an expression.
-use Rattle.std.proofs.Common.{◌≡◌, ℕ, suc, ◌≤◌, List, ◌∷◌, Some, None, Option, sym, ap, ◌∙◌, subst, arith}
+use Rattle.std.proofs.Common.{◌≡◌, ℕ, suc, ◌≤◌, List, ◌∷◌, Some, None, Option, sym, ap, ◌∙◌, subst, arith, take, drop}
 use Rattle.syntax.specs.Trees.{Expression, first, minus, more, Term, one, times, Factor, name, number, paren}
 use Rattle.syntax.specs.TreeOf.{name_of}
 use Rattle.syntax.specs.declared.tree.Name as coded
@@ -39,9 +39,10 @@ module _ (p : ℕ) where
   pub variable_spelled : {us vs : List Token} {i : Name} {n : ℕ} → us ≡ token_at (kind.name i) n ∷ vs → IsFactor us (name i n) vs
   variable_spelled {i = i} e = record { tree = parse.variable i; tokens = ap kinds e; placed = ap (factor_at (parse.variable i)) e; fits = omega arith }
 
-  -- as a name of the code that is the one read
-  pub name_spelled : (source : List ℕ) {us vs : List Token} {n m : coded.Name} → n ≡ m → us ≡ token_at (kind.name (name_of source m)) m.place ∷ vs → IsFactor us (name (name_of source n) n.place) vs
-  name_spelled source {us} {vs} same e = subst (λ n. IsFactor us (name (name_of source n) n.place) vs) (sym same) (variable_spelled e)
+  -- as a name of the code with the place and the length of the one read
+  pub name_spelled : (source : List ℕ) {us vs : List Token} {n m : coded.Name} → (n.place ≡ m.place) × (n.length ≡ m.length) → us ≡ token_at (kind.name (name_of source m)) m.place ∷ vs → IsFactor us (name (name_of source n) n.place) vs
+  name_spelled source {us} {vs} {n} {m} (place, length) e =
+      subst (λ q. IsFactor us (name (take n.length (drop q source)) q) vs) (sym place) (subst (λ k. IsFactor us (name (take k (drop m.place source)) m.place) vs) (sym length) (variable_spelled e))
 
   pub literal_spelled : {us vs : List Token} {v n : ℕ} → us ≡ token_at (kind.number v) n ∷ vs → IsFactor us (number v n) vs
   literal_spelled {v = v} e = record { tree = parse.literal v; tokens = ap kinds e; placed = ap (factor_at (parse.literal v)) e; fits = omega arith }

@@ -1,5 +1,4 @@
 -- The syntax tree that the code builds, as a tree over names. The boxes are left out, and names are read from the source.
---   named                               the name that a token is
 --   name_of                             the bytes of a name
 --   factor_of, term_of, expression_of   the three levels of an expression
 --   condition_of, statement_of
@@ -10,7 +9,6 @@
 use Rattle.std.specs.Prelude.{ℕ, List, [], ◌∷◌, take, drop, vec_items}
 use Rattle.syntax.specs.Tokens.{Name}
 use Rattle.syntax.specs.Trees as tree
-use Rattle.syntax.specs.declared.token.Token as coded-token
 use Rattle.syntax.specs.declared.tree.Name as coded-name
 use Rattle.syntax.specs.declared.tree.Factor.{Factor}
 use Rattle.syntax.specs.declared.tree.Term.{Term}
@@ -20,9 +18,6 @@ use Rattle.syntax.specs.declared.tree.Condition.{Condition}
 use Rattle.syntax.specs.declared.tree.Statement.{Statement, Row_of-Statement, end_of-Statement, more_of-Statement}
 use Rattle.syntax.specs.declared.tree.Statement.TheVariants.{Assign, Scan, Print, If', IfElse', While', Block'}
 use Rattle.syntax.specs.declared.tree.Program.{Program}
-
-abbrev pub named : coded-token.Token → coded-name.Name
-named t = record { place = t.place; length = t.length }
 
 abbrev pub name_of : List ℕ → coded-name.Name → Name
 name_of source n = take n.length (drop n.place source)

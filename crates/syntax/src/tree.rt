@@ -1,6 +1,5 @@
 // The syntax tree. Each node keeps the places of the tokens that its instructions are blamed on.
 ghost use Rattle.std.specs.Prelude.{◌≡◌};
-ghost use Rattle.syntax.specs.TreeOf.{named};
 
 use crate::token::{Additive, Multiplicative, Relation, Token};
 
@@ -12,7 +11,7 @@ pub struct Name {
 }
 
 impl From<Token> for Name {
-    ghost from_gives = { λ token name. name ≡ named token };
+    ghost from_gives = { λ token name. (name.place ≡ token.place) × (name.length ≡ token.length) };
 
     fn from(token: Token) -> Name {
         Name {

@@ -99,7 +99,7 @@ impl Scope<'_> {
         }
     }
 
-    // The first name of the statements that is not declared, if there is one.
+    // Whether each name in the statements is declared. The first that is not is what is refused.
     #[cycle(statement_uses)]
     pub(crate) fn check_statements(&self, statements: &[Statement]) -> Result<(), Refusal>
         ensures { result ≡ outcome (first_undeclared (entries self.now) (uses_in_statements (statements_of self.now.source.now statements.now))) }

@@ -1,13 +1,13 @@
 // The names used in statements, looked up in the order of the source.
 #![tactic(auto, using(crate::proofs::Sequences::one_by_one))]
 
-ghost use Rattle.std.specs.Prelude.{[], ◌∷◌};
-ghost use Rattle.syntax.specs.TreeOf.{name_of, factor_of, term_of, expression_of, condition_of, statement_of, statements_of};
+ghost use Rattle.std.specs.Prelude.{[], ◌∷◌, ◌++◌};
+ghost use Rattle.syntax.specs.TreeOf.{name_of, factor_of, term_of, expression_of, condition_of, body_of, statement_of, statements_of};
 ghost use Rattle.names.specs.Uses.{uses_in_factor, uses_in_term, uses_in_expression, uses_in_condition, uses_in_statement, uses_in_statements, Checks};
 
 use crate::cells::Scope;
 use crate::refusals::Refusal;
-use syntax::tree::{Condition, Expression, Factor, Name, Statement, Term};
+use syntax::tree::{Condition, Expression, Factor, Guarded, Name, Statement, Term};
 
 impl Scope<'_> {
     fn check_name(&self, name: Name) -> Result<(), Refusal>
@@ -62,6 +62,14 @@ impl Scope<'_> {
     }
 
     #[cycle(statement_uses)]
+    fn check_guarded(&self, guarded: &Guarded) -> Result<(), Refusal>
+        ensures { Checks self.now (uses_in_condition (condition_of self.now.source.now guarded.now.condition) ++ uses_in_statement (body_of self.now.source.now guarded.now)) result }
+    {
+        self.check_condition(&guarded.condition)?;
+        self.check_statement(&guarded.body)
+    }
+
+    #[cycle(statement_uses)]
     fn check_statement(&self, statement: &Statement) -> Result<(), Refusal>
         ensures { Checks self.now (uses_in_statement (statement_of self.now.source.now statement.now)) result }
     {
@@ -71,27 +79,13 @@ impl Scope<'_> {
                 self.check_expression(value)
             }
             Statement::Scan(name) | Statement::Print(name) => self.check_name(*name),
-            Statement::If {
-                condition,
-                body,
-                ..
-            }
-            | Statement::While {
-                condition,
-                body,
-                ..
-            } => {
-                self.check_condition(condition)?;
-                self.check_statement(body)
-            }
+            Statement::If(guarded) | Statement::While(guarded) => self.check_guarded(guarded),
             Statement::IfElse {
-                condition,
-                body,
+                first,
                 else_body,
                 ..
             } => {
-                self.check_condition(condition)?;
-                self.check_statement(body)?;
+                self.check_guarded(first)?;
                 self.check_statement(else_body)
             }
             Statement::Block(statements) => self.check_statements(statements),

@@ -5,12 +5,15 @@
 --   FirstUndeclared   the first name used that is not declared stands at this place
 --   first_undeclared  where that is
 --   outcome           how a check of the names used ends
+--   Checks            a check of the names used in a scope ends so
 use Rattle.std.specs.Prelude.{◌≡◌, ℕ, ◌<◌, cond, List, [], ◌∷◌, ◌++◌, length, is_some, Some, None, Ok, Err, Option, Result}
 use Rattle.syntax.specs.Tokens.{Name}
 use Rattle.syntax.specs.Trees.{Factor, name, number, paren, Term, one, times, Expression, first, minus, more, Condition, test, Statement, assign, scan, print, when, either, while, block, Statements, none, then}
 use Rattle.names.specs.declared.refusals.Refusal.{Refusal}
 use Rattle.names.specs.declared.refusals.Refusal.TheVariants as refusal
 use Rattle.names.specs.Cells.{Entries, name_at, place_at, cell_of, Undeclared}
+use Rattle.names.specs.Scopes.{entries}
+use Rattle.names.specs.declared.cells.Scope.{Scope}
 
 module _ {N : Type 0} where
   abbrev mutual
@@ -65,3 +68,6 @@ first_undeclared es (u ∷ us) = cond (is_some (cell_of es u.0)) (first_undeclar
 abbrev pub outcome : Option ℕ → Result (Unit {0}) Refusal
 outcome None = Ok tt
 outcome (Some p) = Err (refusal.Undeclared p)
+
+abbrev pub Checks : Scope → Entries → Result (Unit {0}) Refusal → Type 0
+Checks s us r = r ≡ outcome (first_undeclared (entries s) us)

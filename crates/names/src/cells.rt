@@ -52,6 +52,7 @@ impl<'a> Scope<'a> {
         if let Some(name) = self.declared.get(MAX_NAMES) {
             return Err(Refusal::TooMany(name.place));
         }
+        // A look-up among those before it and no set, which allocates: this answer has no case for want of memory.
         for (i, name) in self.declared.iter().enumerate() {
             let earlier = Scope {
                 declared: &self.declared[..i],

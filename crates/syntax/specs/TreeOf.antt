@@ -2,6 +2,7 @@
 --   name_of                             the bytes of a name
 --   factor_of, term_of, expression_of   the three levels of an expression
 --   condition_of, statement_of
+--   body_of                             the statement behind a condition
 --   row_of                              the statements of a block
 --   statements_of                       the same of a list of statements
 --   declared_of                         the names of a declaration
@@ -16,6 +17,7 @@ use Rattle.syntax.specs.declared.tree.Expression.{Expression}
 use Rattle.syntax.specs.declared.tree.Expression.TheVariants.{First, Negative, Sum', Variable, Number, Parenthesized', One, Product'}
 use Rattle.syntax.specs.declared.tree.Condition.{Condition}
 use Rattle.syntax.specs.declared.tree.Statement.{Statement, Row_of-Statement, end_of-Statement, more_of-Statement}
+use Rattle.syntax.specs.declared.tree.Guarded.{Guarded}
 use Rattle.syntax.specs.declared.tree.Statement.TheVariants.{Assign, Scan, Print, If', IfElse', While', Block'}
 use Rattle.syntax.specs.declared.tree.Program.{Program}
 
@@ -54,6 +56,9 @@ abbrev mutual
   pub row_of : List ℕ → {m : _} → Row_of-Statement m → tree.Statements Name
   row_of source end_of-Statement = tree.none
   row_of source (more_of-Statement s ss) = tree.then (statement_of source s) (row_of source ss)
+
+abbrev pub body_of : List ℕ → Guarded → tree.Statement Name
+body_of source g = statement_of source g.body.value
 
 abbrev pub statements_of : List ℕ → List Statement → tree.Statements Name
 statements_of source [] = tree.none

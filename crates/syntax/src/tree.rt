@@ -66,29 +66,28 @@ pub struct Condition {
     pub right: Expression,
 }
 
-// The place of an `if` or a `while` is that of its word.
+// A condition and the statement behind it. The place is that of the word `if` or `while`.
+#[cycle(statement)]
+#[derive(Drop)]
+pub struct Guarded {
+    pub place: u32,
+    pub condition: Condition,
+    pub body: Box<Statement>,
+}
+
+#[cycle(statement)]
 #[derive(Drop)]
 pub enum Statement {
     Assign(Name, Expression),
     Scan(Name),
     Print(Name),
-    If {
-        place: u32,
-        condition: Condition,
-        body: Box<Statement>,
-    },
+    If(Guarded),
     IfElse {
-        place: u32,
-        condition: Condition,
-        body: Box<Statement>,
+        first: Guarded,
         else_place: u32,
         else_body: Box<Statement>,
     },
-    While {
-        place: u32,
-        condition: Condition,
-        body: Box<Statement>,
-    },
+    While(Guarded),
     Block(Vec<Statement>),
 }
 

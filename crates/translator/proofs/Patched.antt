@@ -3,10 +3,10 @@ use Rattle.std.proofs.Common.{◌≤◌, ◌<◌, get_or, drop, ◌≡◌, ℕ, 
 use Rattle.std.proofs.lemmas.List.{set_at, at_drop_more, at_drop_all, append-nil}
 use Rattle.code.specs.declared.Instruction.{Instruction}
 use Rattle.code.specs.declared.Instruction.TheVariants.{Jump, JumpIfZero}
-use Rattle.syntax.specs.declared.tree.Condition.{Condition}
+use Rattle.syntax.specs.declared.tree.Guarded.{Guarded}
 use Rattle.syntax.specs.declared.tree.Statement.{Statement}
 use Rattle.translator.specs.Linear.{Code, past}
-use Rattle.translator.specs.Emitted.{condition_code, statement_code, statements_code, if_code, if_else_code, while_code}
+use Rattle.translator.specs.Emitted.{condition_code, body_code, statement_code, statements_code, if_code, if_else_code, while_code}
 use Rattle.translator.specs.Emitters.{Emits}
 use Rattle.translator.specs.Guarded.{Guards}
 use Rattle.translator.specs.declared.emitter.Emitter.{Emitter}
@@ -108,12 +108,12 @@ module _ (p : ℕ) (old c body : Code) (n : ℕ) {v₃ : Code} (e : v₃ ≡ old
         ∙ ap (λ l. old ++ l) (append_assoc c ((JumpIfZero second, p) ∷ body) ((Jump (past second other), q) ∷ other))
 
 -- the same of emitters, which keep their scope
-pub guards : (p : ℕ) (c : Condition) (x : Statement) {m₀ m₁ m₂ m₃ : Emitter} (n : ℕ) → Emits m₀ (condition_code m₀.scope c) m₁ → n ≡ length m₁.code.items → Emits m₁ ((JumpIfZero 0, p) ∷ []) m₂ →
-    Emits m₂ (statement_code m₂.scope x (suc (length m₂.code.items))) m₃ → Guards m₀ p c x n m₃
-guards p c x {m₀} {m₁} {m₂} {m₃} n tested en gapped made =
+pub guards : (g : Guarded) (x : Statement) {m₀ m₁ m₂ m₃ : Emitter} (n : ℕ) → x ≡ g.body.value → Emits m₀ (condition_code m₀.scope g.condition) m₁ → n ≡ length m₁.code.items → Emits m₁ ((JumpIfZero 0, g.place) ∷ []) m₂ →
+    Emits m₂ (statement_code m₂.scope x (suc (length m₂.code.items))) m₃ → Guards m₀ g n m₃
+guards g x {m₀} {m₁} {m₂} {m₃} n is tested en gapped made =
     let old : Code = m₀.code.items in
-    let test : Code = condition_code m₀.scope c in
-    let gap : Instruction × ℕ = (JumpIfZero 0, p) in
+    let test : Code = condition_code m₀.scope g.condition in
+    let gap : Instruction × ℕ = (JumpIfZero 0, g.place) in
     let kept : m₂.scope ≡ m₀.scope = gapped.scope ∙ tested.scope in
     let front : m₂.code.items ≡ old ++ (test ++ (gap ∷ [])) = twice old test (gap ∷ []) tested.code gapped.code in
     let spot : n ≡ length old + length test = en ∙ ap length tested.code ∙ length-append old test in
@@ -121,48 +121,48 @@ guards p c x {m₀} {m₁} {m₂} {m₃} n tested en gapped made =
       emits = record {
         scope = made.scope ∙ kept;
         code =
-            twice old (test ++ (gap ∷ [])) (statement_code m₀.scope x (suc (past (suc (length old)) test))) front
-            (made.code ∙ (λ i. m₂.code.items ++ statement_code (kept i) x (end gap old test [] n front spot i)))
-            ∙ ap (λ l. old ++ l) (append_assoc test (gap ∷ []) (statement_code m₀.scope x (suc (past (suc (length old)) test))));
+            twice old (test ++ (gap ∷ [])) (body_code m₀.scope g (suc (past (suc (length old)) test))) front
+            (made.code ∙ (λ i. m₂.code.items ++ statement_code (kept i) (is i) (end gap old test [] n front spot i)))
+            ∙ ap (λ l. old ++ l) (append_assoc test (gap ∷ []) (body_code m₀.scope g (suc (past (suc (length old)) test))));
       };
       stands = spot;
     }
 
-module _ (p : ℕ) (c : Condition) (x : Statement) {m₀ m₃ : Emitter} (n : ℕ) (g : Guards m₀ p c x n m₃) where
+module _ (g : Guarded) {m₀ m₃ : Emitter} (n : ℕ) (put : Guards m₀ g n m₃) where
   abbrev condition : Code
-  condition = condition_code m₀.scope c
+  condition = condition_code m₀.scope g.condition
 
   abbrev body : Code
-  body = statement_code m₀.scope x (suc (past (suc (length m₀.code.items)) condition))
+  body = body_code m₀.scope g (suc (past (suc (length m₀.code.items)) condition))
 
-  pub emits_if : (t : ℕ) {m₄ : Emitter} → t ≡ suc (length m₃.code.items) → m₄.scope ≡ m₃.scope → m₄.code.items ≡ set m₃.code.items n (JumpIfZero t, p) →
-      Emits m₀ (if_code m₀.scope p c x (suc (length m₀.code.items))) m₄
+  pub emits_if : (t : ℕ) {m₄ : Emitter} → t ≡ suc (length m₃.code.items) → m₄.scope ≡ m₃.scope → m₄.code.items ≡ set m₃.code.items n (JumpIfZero t, g.place) →
+      Emits m₀ (if_code m₀.scope g (suc (length m₀.code.items))) m₄
   emits_if t et scope patched = record {
-    scope = scope ∙ g.emits.scope;
-    code = if_made p m₀.code.items condition body n g.emits.code g.stands t et patched;
+    scope = scope ∙ put.emits.scope;
+    code = if_made g.place m₀.code.items condition body n put.emits.code put.stands t et patched;
   }
 
-  pub emits_while : (s t : ℕ) {m₄ m₅ : Emitter} → s ≡ suc (length m₀.code.items) → Emits m₃ ((Jump s, p) ∷ []) m₄ → t ≡ suc (length m₄.code.items) → m₅.scope ≡ m₄.scope → m₅.code.items ≡ set m₄.code.items n (JumpIfZero t, p) →
-      Emits m₀ (while_code m₀.scope p c x (suc (length m₀.code.items))) m₅
+  pub emits_while : (s t : ℕ) {m₄ m₅ : Emitter} → s ≡ suc (length m₀.code.items) → Emits m₃ ((Jump s, g.place) ∷ []) m₄ → t ≡ suc (length m₄.code.items) → m₅.scope ≡ m₄.scope → m₅.code.items ≡ set m₄.code.items n (JumpIfZero t, g.place) →
+      Emits m₀ (while_code m₀.scope g (suc (length m₀.code.items))) m₅
   emits_while s t es back et scope patched = record {
-    scope = scope ∙ back.scope ∙ g.emits.scope;
-    code = while_made p m₀.code.items condition body n g.emits.code g.stands s t es back.code et patched;
+    scope = scope ∙ back.scope ∙ put.emits.scope;
+    code = while_made g.place m₀.code.items condition body n put.emits.code put.stands s t es back.code et patched;
   }
 
   pub emits_if_else : (q : ℕ) (y : Statement) (m t u : ℕ) {m₄ m₅ m₆ m₇ : Emitter} → m ≡ length m₃.code.items → Emits m₃ ((Jump 0, q) ∷ []) m₄ →
-      u ≡ suc (length m₄.code.items) → m₅.scope ≡ m₄.scope → m₅.code.items ≡ set m₄.code.items n (JumpIfZero u, p) →
+      u ≡ suc (length m₄.code.items) → m₅.scope ≡ m₄.scope → m₅.code.items ≡ set m₄.code.items n (JumpIfZero u, g.place) →
       Emits m₅ (statement_code m₅.scope y (suc (length m₅.code.items))) m₆ →
       t ≡ suc (length m₆.code.items) → m₇.scope ≡ m₆.scope → m₇.code.items ≡ set m₆.code.items m (Jump t, q) →
-      Emits m₀ (if_else_code m₀.scope p c x q y (suc (length m₀.code.items))) m₇
+      Emits m₀ (if_else_code m₀.scope g q y (suc (length m₀.code.items))) m₇
   emits_if_else q y m t u {m₄} {m₅} em over eu same branched other et scope patched = record {
     scope = scope ∙ other.scope ∙ until;
     code =
-        else_made p m₀.code.items condition body n g.emits.code g.stands q (statement_code m₀.scope y) m u em over.code eu branched
+        else_made g.place m₀.code.items condition body n put.emits.code put.stands q (statement_code m₀.scope y) m u em over.code eu branched
         (other.code ∙ ap (λ s. m₅.code.items ++ statement_code s y (suc (length m₅.code.items))) until) t et patched;
   }
     where
       until : m₅.scope ≡ m₀.scope
-      until = same ∙ over.scope ∙ g.emits.scope
+      until = same ∙ over.scope ∙ put.emits.scope
 
 -- m₁ has put the code of some statements, and the code of those left makes up the code of all
 pub record Left (m₀ m₁ : Emitter) (all left : List Statement) : Type 0 where

@@ -1,6 +1,8 @@
 // The code of a whole program.
-ghost use Rattle.std.specs.Prelude.{◌≡◌, ◌≤◌, length, IfOk, vec_len, OnOk};
+ghost use Rattle.std.specs.Prelude.{◌≡◌, ◌≤◌, length, IfOk, vec_len, OnOk, MatchResult};
+ghost use Rattle.code.specs.Words.{InRange};
 ghost use Rattle.syntax.specs.TreeOf.{tree_of};
+ghost use Rattle.translator.specs.declared.failure.Failure.TheVariants.{WideOperand};
 ghost use Rattle.translator.specs.Linear.{places};
 ghost use Rattle.translator.specs.Published.{trans, linearise};
 ghost use Rattle.translator.specs.Written.{words_of, WordOf, Fits};
@@ -29,7 +31,7 @@ pub fn emit(heap: Global, source: &[u8], program: &Program) -> Result<Vec<Placed
 }
 
 fn word(instruction: Instruction) -> Result<u32, Failure>
-    ensures { IfOk result (WordOf instruction) }
+    ensures { MatchResult result (WordOf instruction) (λ e. (e ≡ WideOperand) × (InRange instruction → ⊥)) }
 {
     encode(instruction).ok_or(Failure::WideOperand)
 }

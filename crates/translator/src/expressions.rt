@@ -10,7 +10,7 @@ use code::Instruction;
 use syntax::token::{Additive, Multiplicative, Relation};
 use syntax::tree::{Condition, Expression, Factor, Term};
 
-// Three functions and no trait: nothing is generic over operators, and its three impls would hold these same matches.
+// No `From`: both its types are foreign here. A trait of our own would hold these matches, and nothing be generic over it.
 fn sum(operator: Additive) -> Instruction
     ensures { result ≡ code_of_sum operator }
 {

@@ -12,10 +12,8 @@ pub enum Failure {
     WideOperand,
 }
 
-impl<T> From<AllocFailed<T>> for Failure
-where
-    T: Drop,
-{
+// By hand: a derived one is for a single `T`, in a variant that keeps the value.
+impl<T: Drop> From<AllocFailed<T>> for Failure {
     ghost from_gives = { λ _ y. y ≡ NoMemory };
 
     fn from(_refused: AllocFailed<T>) -> Failure {

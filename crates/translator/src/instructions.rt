@@ -9,7 +9,7 @@ use code::Instruction;
 use syntax::tree::Name;
 
 impl Emitter<'_> {
-    // The cell of a name, or 0 for a name that is not declared.
+    // The cell of a name. An undeclared one has 0, as in the published symbol table: an Err would be a refusal of no rule.
     pub fn cell(&self, name: Name) -> u16
         ensures { result ≡ table_of self.now.scope (name_of self.now.scope.source.now name) }
     {

@@ -34,6 +34,7 @@ impl From<Refusal> for Refused {
     }
 }
 
+// By hand: `store` and `translate_program` promise which error their `?` makes.
 impl From<AllocError> for Refusal {
     ghost from_gives = { λ _ y. y ≡ NoMemory };
 

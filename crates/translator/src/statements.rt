@@ -7,57 +7,45 @@ ghost use Rattle.translator.specs.Emitters.{Emits};
 use crate::emitter::Emitter;
 use crate::failure::Failure;
 use code::Instruction;
-use syntax::tree::{Condition, Statement};
+use syntax::tree::{Guarded, Statement};
 
 impl Emitter<'_> {
     // A condition, a jump for when it is false, and a body. Answers where the jump stands, which has no target yet.
     #[cycle(statement_emitters)]
-    fn guarded(
-        &mut self,
-        place: u32,
-        condition: &Condition,
-        body: &Statement,
-    ) -> Result<usize, Failure>
-        ensures { IfOk result (λ jump. Guards self.old place condition.now body.now jump self.new) }
+    fn guarded(&mut self, guarded: &Guarded) -> Result<usize, Failure>
+        ensures { IfOk result (λ jump. Guards self.old guarded.now jump self.new) }
     {
-        self.condition(condition)?;
+        self.condition(&guarded.condition)?;
         let jump = self.code.len();
-        self.put(Instruction::JumpIfZero(0), place)?;
-        self.statement(body)?;
+        self.put(Instruction::JumpIfZero(0), guarded.place)?;
+        self.statement(&guarded.body)?;
         Ok(jump)
     }
 
     #[cycle(statement_emitters)]
-    fn if_statement(
-        &mut self,
-        place: u32,
-        condition: &Condition,
-        body: &Statement,
-    ) -> Result<(), Failure>
-        ensures { OnOk result (Emits self.old (if_code self.old.scope place condition.now body.now (suc (length self.old.code.items))) self.new) }
+    fn if_statement(&mut self, guarded: &Guarded) -> Result<(), Failure>
+        ensures { OnOk result (Emits self.old (if_code self.old.scope guarded.now (suc (length self.old.code.items))) self.new) }
     {
-        let branch = self.guarded(place, condition, body)?;
+        let branch = self.guarded(guarded)?;
         let end = self.next_address()?;
-        self.patch(branch, Instruction::JumpIfZero(end), place);
+        self.patch(branch, Instruction::JumpIfZero(end), guarded.place);
         Ok(())
     }
 
     #[cycle(statement_emitters)]
     fn if_else_statement(
         &mut self,
-        place: u32,
-        condition: &Condition,
-        body: &Statement,
+        first: &Guarded,
         else_place: u32,
         else_body: &Statement,
     ) -> Result<(), Failure>
-        ensures { OnOk result (Emits self.old (if_else_code self.old.scope place condition.now body.now else_place else_body.now (suc (length self.old.code.items))) self.new) }
+        ensures { OnOk result (Emits self.old (if_else_code self.old.scope first.now else_place else_body.now (suc (length self.old.code.items))) self.new) }
     {
-        let branch = self.guarded(place, condition, body)?;
+        let branch = self.guarded(first)?;
         let skip = self.code.len();
         self.put(Instruction::Jump(0), else_place)?;
         let second = self.next_address()?;
-        self.patch(branch, Instruction::JumpIfZero(second), place);
+        self.patch(branch, Instruction::JumpIfZero(second), first.place);
         self.statement(else_body)?;
         let end = self.next_address()?;
         self.patch(skip, Instruction::Jump(end), else_place);
@@ -65,19 +53,14 @@ impl Emitter<'_> {
     }
 
     #[cycle(statement_emitters)]
-    fn while_statement(
-        &mut self,
-        place: u32,
-        condition: &Condition,
-        body: &Statement,
-    ) -> Result<(), Failure>
-        ensures { OnOk result (Emits self.old (while_code self.old.scope place condition.now body.now (suc (length self.old.code.items))) self.new) }
+    fn while_statement(&mut self, guarded: &Guarded) -> Result<(), Failure>
+        ensures { OnOk result (Emits self.old (while_code self.old.scope guarded.now (suc (length self.old.code.items))) self.new) }
     {
         let start = self.next_address()?;
-        let branch = self.guarded(place, condition, body)?;
-        self.put(Instruction::Jump(start), place)?;
+        let branch = self.guarded(guarded)?;
+        self.put(Instruction::Jump(start), guarded.place)?;
         let exit = self.next_address()?;
-        self.patch(branch, Instruction::JumpIfZero(exit), place);
+        self.patch(branch, Instruction::JumpIfZero(exit), guarded.place);
         Ok(())
     }
 
@@ -92,23 +75,13 @@ impl Emitter<'_> {
             }
             Statement::Scan(name) => self.put(Instruction::Read(self.cell(*name)), name.place),
             Statement::Print(name) => self.put(Instruction::Write(self.cell(*name)), name.place),
-            Statement::If {
-                place,
-                condition,
-                body,
-            } => self.if_statement(*place, condition, body),
+            Statement::If(guarded) => self.if_statement(guarded),
             Statement::IfElse {
-                place,
-                condition,
-                body,
+                first,
                 else_place,
                 else_body,
-            } => self.if_else_statement(*place, condition, body, *else_place, else_body),
-            Statement::While {
-                place,
-                condition,
-                body,
-            } => self.while_statement(*place, condition, body),
+            } => self.if_else_statement(first, *else_place, else_body),
+            Statement::While(guarded) => self.while_statement(guarded),
             Statement::Block(statements) => self.statements(statements),
         }
     }

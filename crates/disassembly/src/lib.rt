@@ -49,7 +49,8 @@ pub struct Position {
 pub fn position_of(source: &[u8], place: usize) -> Position
     ensures { (result.line, result.column) ≡ position (take place source.now) }
 {
-    let before = &source[..place.min(source.len())];
+    let before = source.get(..place).unwrap_or(source);
+    // A loop: that the sums fit is an invariant of it, but of a closure under `fold` a proof longer than the loop.
     let mut position = Position { line: 1, column: 1 };
     for byte in before {
         if *byte == b'\n' {

@@ -25,6 +25,7 @@ impl Reader<'_> {
     }
 
     // The readers below differ by their closures; a TryFrom for each of their kinds would be longer than its closure.
+
     // Reads the next token as what `form` makes of it, or leaves it where that is nothing.
     fn pick<T, F: FnOnce(Token) -> Option<T>>(&mut self, form: F) -> Option<T>
         requires { F.IsAlwaysCallable form }

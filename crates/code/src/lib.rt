@@ -7,7 +7,8 @@ ghost use Rattle.code.specs.Advances.{AdvancesAddUp, AdvancesStayWithin};
 ghost use Rattle.code.specs.Stack.{Frame, TooFew, Full, Jumps};
 
 // One instruction. Cells and jump targets count from 1.
-// Flat: with the operations in an enum of their own, one case of this, a step took a tenth longer.
+// Flat: with the operations in an enum of their own, one case of this, a step took about a tenth longer in a trial with an
+// older kit.
 #[derive(Clone, Copy, PartialEq, Eq, Debug)]
 pub enum Instruction {
     Literal(i32),

@@ -49,15 +49,20 @@ pub struct Position {
 pub fn position_of(source: &[u8], place: usize) -> Position
     ensures { (result.line, result.column) ≡ position (take place source.now) }
 {
-    let before = &source[..place.min(source.len())];
-    let mut position = Position { line: 1, column: 1 };
-    for byte in before {
-        if *byte == b'\n' {
-            position.line += 1;
-            position.column = 1;
-        } else {
-            position.column += 1;
-        }
-    }
-    position
+    let before = source.get(..place).unwrap_or(source);
+    before
+        .iter()
+        .fold(Position { line: 1, column: 1 }, |at, byte| {
+            if *byte == b'\n' {
+                Position {
+                    line: at.line + 1,
+                    column: 1,
+                }
+            } else {
+                Position {
+                    column: at.column + 1,
+                    ..at
+                }
+            }
+        })
 }

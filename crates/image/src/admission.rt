@@ -8,6 +8,9 @@ use crate::refusals::Refusal;
 use code::{Instruction, decode};
 use std::alloc::Global;
 
+// An image has no more words than this.
+pub(crate) const MAX_WORDS: usize = 4096;
+
 // Whether a cell exists.
 fn has_cell(n: u16) -> bool
     ensures { result ≡ cell_exists n }
@@ -64,7 +67,7 @@ fn decode_all(heap: Global, words: &[u32]) -> Result<Vec<Instruction>, Refusal>
 pub fn admit(heap: Global, words: &[u32]) -> Result<Image, Refusal>
     ensures { MatchResult result (λ image. Admitted words.now image.code.items) (λ e. Refuses words.now e) }
 {
-    if words.len() > 4096 {
+    if words.len() > MAX_WORDS {
         return Err(Refusal::TooLong);
     }
     let code = decode_all(heap, words)?;

@@ -3,6 +3,7 @@ ghost use Rattle.std.specs.Prelude.{◌≡◌};
 ghost use Rattle.image.specs.Refusals.{number_of, place_of};
 ghost use Rattle.image.specs.declared.refusals.Refusal.TheVariants.{NoMemory};
 
+use crate::admission::MAX_WORDS;
 use refusal::Refused;
 use std::alloc::AllocError;
 
@@ -15,6 +16,7 @@ pub enum Refusal {
     NoMemory,
 }
 
+// By hand: `admit` promises which error its `?` makes.
 impl From<AllocError> for Refusal {
     ghost from_gives = { λ _ e. e ≡ NoMemory };
 
@@ -27,23 +29,12 @@ impl From<Refusal> for Refused {
     ghost from_gives = { λ e r. (r.number ≡ number_of e) × (r.place ≡ place_of e) };
 
     fn from(e: Refusal) -> Refused {
-        match e {
-            Refusal::TooLong => Refused {
-                number: 11,
-                place: 4097,
-            },
-            Refusal::NotInstruction(address) => Refused {
-                number: 12,
-                place: address,
-            },
-            Refusal::OutOfBounds(address) => Refused {
-                number: 13,
-                place: address,
-            },
-            Refusal::NoMemory => Refused {
-                number: 40,
-                place: 0,
-            },
-        }
+        let (number, place) = match e {
+            Refusal::TooLong => (11, MAX_WORDS + 1),
+            Refusal::NotInstruction(address) => (12, address),
+            Refusal::OutOfBounds(address) => (13, address),
+            Refusal::NoMemory => (40, 0),
+        };
+        Refused { number, place }
     }
 }

@@ -8,7 +8,7 @@ use Rattle.syntax.specs.Tokens.{kind_of, tokens_of}
 use Rattle.grammar.specs.Kinds.{Kind, Mark, LeftParen, RightParen, Semicolon, Comma, Int, Else, Token, mark, number, additive, multiplicative, Additive, Plus, Minus, Multiplicative, Times, Divide, Modulo, same}
 use Rattle.grammar.specs.Automaton.{Symbol, identifier, names, body, tail_entries, Frame, braces, whole, level, statement, tail, bad, elses, closes, statement_entries, token, End, at_paren, at_semicolon, inside, expression, factor, products, sums, end, Step, next, Entry, pick, step, factor_entries, sum_entries, end_entries, go, feed, judged, judge, Verdict}
 use Rattle.grammar.proofs.Forest.{carry, value, same_sound}
-use Rattle.parser.specs.declared.refusal.Refusal.{Refusal}
+use Rattle.parser.specs.declared.refusals.Refusal.{Refusal}
 use Rattle.parser.specs.Readers.{Marks}
 use Rattle.parser.specs.Statements.{end_of, closed}
 use Rattle.parser.specs.Reads.{token_at, is_additive, is_multiplicative, starts, Peeks, Refuses}

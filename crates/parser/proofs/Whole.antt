@@ -7,8 +7,8 @@ use Rattle.grammar.specs.Kinds.{Token, kinds}
 use Rattle.grammar.specs.Grammar.{Program}
 use Rattle.grammar.specs.Automaton.{judge, good, wrong, start}
 use Rattle.grammar.proofs.Verdicts.{judges}
-use Rattle.parser.specs.declared.refusal.Refusal.{Refusal}
-use Rattle.parser.specs.declared.refusal.Refusal.TheVariants.{TooSoon, Grammar, Depth, NoMemory}
+use Rattle.parser.specs.declared.refusals.Refusal.{Refusal}
+use Rattle.parser.specs.declared.refusals.Refusal.TheVariants.{TooSoon, Grammar, Depth, NoMemory}
 use Rattle.parser.specs.Reads.{Refuses}
 use Rattle.parser.specs.Promise.{Refused}
 

@@ -5,7 +5,7 @@
 use Rattle.std.specs.Prelude.{ℕ, List, [], ◌∷◌, Result}
 use Rattle.grammar.specs.Automaton.{whole, Symbol, names, tail, body, start}
 use Rattle.parser.specs.declared.reader.Reader.{Reader}
-use Rattle.parser.specs.declared.refusal.Refusal.{Refusal}
+use Rattle.parser.specs.declared.refusals.Refusal.{Refusal}
 use Rattle.parser.specs.Reads.{ahead}
 use Rattle.parser.specs.Statements.{Takes}
 

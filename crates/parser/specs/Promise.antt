@@ -7,8 +7,8 @@ use Rattle.syntax.specs.declared.token.Token as coded
 use Rattle.syntax.specs.Tokens.{tokens_of}
 use Rattle.grammar.specs.Kinds.{Token, kinds}
 use Rattle.grammar.specs.Grammar.{Program, Begins, BrokenAt}
-use Rattle.parser.specs.declared.refusal.Refusal.{Refusal}
-use Rattle.parser.specs.declared.refusal.Refusal.TheVariants.{TooSoon, Grammar, Depth, NoMemory}
+use Rattle.parser.specs.declared.refusals.Refusal.{Refusal}
+use Rattle.parser.specs.declared.refusals.Refusal.TheVariants.{TooSoon, Grammar, Depth, NoMemory}
 
 abbrev pub number_of : Refusal → ℕ
 number_of TooSoon = 4

@@ -18,7 +18,7 @@ use Rattle.grammar.specs.Grammar.{factor_parens, term_parens, expression_parens,
 use Rattle.grammar.specs.Placed.{factor_at, term_at, expression_at}
 use Rattle.grammar.specs.Automaton.{End, at_paren, at_relation, Symbol, token, identifier, zero_number, expression, factor, products, sums, end}
 use Rattle.parser.specs.declared.reader.Reader.{Reader}
-use Rattle.parser.specs.declared.refusal.Refusal.{Refusal}
+use Rattle.parser.specs.declared.refusals.Refusal.{Refusal}
 use Rattle.parser.specs.Reads.{left, ahead, token_at, Reads, Spells}
 
 abbrev pub Fewer : {X : Type 0} → Reader → Result X Refusal → Reader → Type 0

@@ -16,8 +16,8 @@ use Rattle.syntax.specs.Trees.{Expression, first, minus, Term}
 use Rattle.grammar.specs.Kinds.{Name, Kind, mark, name, number, relation, additive, multiplicative, Token, kinds, Additive, Plus, Minus}
 use Rattle.grammar.specs.Automaton.{Symbol, Verdict, short, wrong, judge}
 use Rattle.parser.specs.declared.reader.Reader.{Reader}
-use Rattle.parser.specs.declared.refusal.Refusal.{Refusal}
-use Rattle.parser.specs.declared.refusal.Refusal.TheVariants.{TooSoon, Grammar, Depth, NoMemory}
+use Rattle.parser.specs.declared.refusals.Refusal.{Refusal}
+use Rattle.parser.specs.declared.refusals.Refusal.TheVariants.{TooSoon, Grammar, Depth, NoMemory}
 
 abbrev pub left : Reader → List coded.Token
 left r = r.rest.now

@@ -11,7 +11,7 @@ use Rattle.std.specs.Prelude.{◌≡◌, ℕ, ◌<◌, List, [], ◌∷◌, leng
 use Rattle.grammar.specs.Kinds.{Token, Mark, Return, RightParen, RightBrace, Semicolon, Assign}
 use Rattle.grammar.specs.Automaton.{at_semicolon, Frame, braces, whole, level, guard, Symbol, token, identifier, zero_number, expression, statement, tail}
 use Rattle.parser.specs.declared.reader.Reader.{Reader}
-use Rattle.parser.specs.declared.refusal.Refusal.{Refusal}
+use Rattle.parser.specs.declared.refusals.Refusal.{Refusal}
 use Rattle.parser.specs.Reads.{left, ahead, Reads}
 use Rattle.parser.specs.Readers.{tokens}
 

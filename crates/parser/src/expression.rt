@@ -5,7 +5,7 @@ ghost use Rattle.parser.specs.Reads.{signed_by};
 ghost use Rattle.parser.specs.Readers.{Fewer, ReadsFactor, ReadsParenthesized, ReadsTerm, ReadsExpression};
 
 use crate::reader::{Reader, deeper};
-use crate::refusal::Refusal;
+use crate::refusals::Refusal;
 use syntax::token::{Additive, Kind, Mark};
 use syntax::tree::{Expression, Factor, Term};
 

@@ -6,11 +6,11 @@ ghost use Rattle.parser.specs.Promise.{Answers};
 mod expression;
 mod program;
 mod reader;
-pub mod refusal;
+pub mod refusals;
 mod statement;
 
 use reader::Reader;
-use refusal::Refusal;
+use refusals::Refusal;
 use std::alloc::Global;
 use syntax::token::Token;
 

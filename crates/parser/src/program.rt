@@ -3,7 +3,7 @@ ghost use Rattle.parser.specs.Readers.{Fewer};
 ghost use Rattle.parser.specs.Programs.{TakesNames, TakesDeclaration, TakesProgram};
 
 use crate::reader::Reader;
-use crate::refusal::Refusal;
+use crate::refusals::Refusal;
 use syntax::token::Mark;
 
 // How many levels there may be below an outermost statement.

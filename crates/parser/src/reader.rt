@@ -5,7 +5,7 @@ ghost use Rattle.grammar.specs.Kinds.{same};
 ghost use Rattle.parser.specs.Reads.{left, ahead, token_at, is_additive, is_multiplicative, Peeks, Picks, Needs};
 ghost use Rattle.parser.specs.Readers.{Fewer, FewerIf, ReadsMark, ReadsMarks, ReadsName, ReadsRelation, ReadsZero};
 
-use crate::refusal::Refusal;
+use crate::refusals::Refusal;
 use std::alloc::Global;
 use syntax::token::{Additive, Kind, Mark, Multiplicative, Relation, Token};
 use syntax::tree::Name;
@@ -16,12 +16,15 @@ pub struct Reader<'a> {
     pub heap: Global,
 }
 
+// `Fewer` relates the tokens before and after a reader, and is the measure of loops and recursion: no type can say it.
 impl Reader<'_> {
     pub fn next(&mut self) -> Result<Token, Refusal>
         ensures read { MatchResult result (λ t. left self.old ≡ t ∷ left self.new) (λ e. (left self.old ≡ []) × (e ≡ Refusal.TooSoon)) }
     {
         self.rest.split_off_first().copied().ok_or(Refusal::TooSoon)
     }
+
+    // The readers below differ by their closures; a TryFrom for each of their kinds would be longer than its closure.
 
     // Reads the next token as what `form` makes of it, or leaves it where that is nothing.
     fn pick<T, F: FnOnce(Token) -> Option<T>>(&mut self, form: F) -> Option<T>

@@ -4,7 +4,7 @@ ghost use Rattle.parser.specs.Readers.{Fewer};
 ghost use Rattle.parser.specs.Statements.{Less, TakesCondition, TakesAssignment, TakesCall, TakesStatement, TakesIf, TakesWhile, TakesBlock, TakesStatements};
 
 use crate::reader::{Reader, deeper};
-use crate::refusal::Refusal;
+use crate::refusals::Refusal;
 use syntax::token::{Kind, Mark};
 
 // How many parentheses a factor may stand in.

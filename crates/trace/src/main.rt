@@ -30,7 +30,7 @@ impl fmt::Display for Stack<'_, '_> {
             return write!(f, "ε");
         };
         write!(f, "{top}")?;
-        for word in (1..68).map_while(|place| self.0.word(place)) {
+        for word in (1..).map_while(|place| self.0.word(place)) {
             write!(f, ":{word}")?;
         }
         Ok(())
@@ -65,6 +65,7 @@ fn words(heap: Global, text: &str) -> anyhow::Result<Vec<u32>> {
 fn print_state(rt: &HostRuntime, run: &Traced<'_>, code: &[Instruction]) -> io::Result<()> {
     let address = run.counter();
     print!(rt; "( {address} , {} , {} )", Stack(run), Cells(run.cells()))?;
+    // Addresses count from 1.
     if let Some(instruction) = code.get(address.saturating_sub(1)) {
         print!(rt; " {}", Mnemonic(*instruction))?;
     }

@@ -1,10 +1,13 @@
-use Rattle.std.proofs.Common.{◌≡◌, min, ap, ◌∙◌, rules}
-use Rattle.std.specs.List.{fold}
-use Rattle.std.proofs.iter.runs.Made.{chains}
-use Rattle.lexer.proofs.Values.{saturating, cut_at_end}
+use Rattle.std.proofs.Common.{◌∙◌, ap, min}
+use Rattle.lexer.proofs.Values.{digits_text, cut}
 use Rattle.lexer.proofs.scan.value.Goals as goal
+
+pub returns-in_default : goal.returns-in_default
+returns-in_default c = absurd (c.in_default.ensures.cases.0 (digits_text c.args.digits.now c.requires.all))
 
 pub returns : goal.returns
 returns c =
-    let folded : c.fold-value.result ≡ fold saturating 0 c.args.digits.now = search (rules, chains) in
-    c.min.ensures ∙ ap (λ v. min v 1073741824) folded ∙ cut_at_end c.args.digits.now
+    let digits = c.args.digits.now in
+    let same = c.in-Ok.ensures.cases.0 in
+    let read = rw same at c.parse.ensures.value.0 in
+    c.min.ensures ∙ ap (λ v. min v 1073741824) c.unwrap_or.ensures ∙ cut digits c.parse.result c.requires.some c.requires.all read

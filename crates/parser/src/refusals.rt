@@ -1,6 +1,6 @@
 // Why tokens make no program.
 ghost use Rattle.std.specs.Prelude.{◌≡◌};
-ghost use Rattle.parser.specs.declared.refusal.Refusal.TheVariants.{NoMemory};
+ghost use Rattle.parser.specs.declared.refusals.Refusal.TheVariants.{NoMemory};
 
 use std::alloc::AllocFailed;
 
@@ -16,6 +16,7 @@ pub enum Refusal {
     NoMemory,
 }
 
+// By hand: the readers promise which error their `?` makes.
 impl<T: Drop> From<AllocFailed<T>> for Refusal {
     ghost from_gives = { λ _ refusal. refusal ≡ NoMemory };
 

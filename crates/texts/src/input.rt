@@ -1,5 +1,5 @@
 // An input tape over text, one number to a line.
-ghost use Rattle.std.specs.Prelude.{◌≡◌, MatchResult};
+ghost use Rattle.std.specs.Prelude.{◌≡◌, length, MatchResult};
 ghost use Rattle.texts.specs.Texts.{lines_of, Words, FirstBad, Lines};
 ghost use Rattle.texts.specs.Refusals.{place_of};
 
@@ -33,6 +33,14 @@ impl TextInput {
     {
         check(&bytes)?;
         Ok(TextInput { bytes, next: 0 })
+    }
+
+    // How many numbers wait, each of 32 bits.
+    pub fn len(&self) -> usize
+        ensures len { result ≡ length self.now }
+        ensures words { Words self.now }
+    {
+        self.bytes[self.next..].len() / 12
     }
 }
 

@@ -8,6 +8,7 @@ use lines::write_line;
 use std::marker::Model;
 use tapes::output::{OutputTape, Pinch};
 
+// No generic tape with WordOutput: to one of another crate no `text` can be added, and a struct around it passes on each method.
 #[derive(Drop)]
 pub struct TextOutput {
     text: Vec<u8>,

@@ -53,7 +53,7 @@ fn append_line(text: &mut Vec<u8>, x: i32)
     ensures len { vec_len text.new ≡ vec_len text.old + 12 }
     ensures capacity { vec_capacity text.old ≤ vec_capacity text.new }
 {
-    let _ = text.extend_from_slice(&write_line(x));
+    text.extend_from_slice(&write_line(x)).unwrap();
 }
 
 impl OutputTape for TextOutput {

@@ -4,7 +4,7 @@ ghost use Rattle.texts.specs.Texts.{lines_of, Words, FirstBad, Lines};
 ghost use Rattle.texts.specs.Refusals.{place_of};
 
 use crate::refusals::Refusal;
-use lines::read_line;
+use lines::{LINE_LENGTH, read_line};
 use std::marker::Model;
 use tapes::input::InputTape;
 
@@ -40,7 +40,7 @@ impl TextInput {
         ensures len { result ≡ length self.now }
         ensures words { Words self.now }
     {
-        self.bytes[self.next..].len() / 12
+        self.bytes[self.next..].len() / LINE_LENGTH
     }
 }
 
@@ -48,7 +48,10 @@ impl TextInput {
 fn check(bytes: &[u8]) -> Result<(), Refusal>
     ensures { MatchResult result (λ _. Lines bytes.now) (λ e. FirstBad bytes.now (place_of e)) }
 {
-    match bytes.chunks(12).position(|line| read_line(line).is_none()) {
+    match bytes
+        .chunks(LINE_LENGTH)
+        .position(|line| read_line(line).is_none())
+    {
         Some(before) => Err(Refusal::NotALine(before + 1)),
         None => Ok(()),
     }
@@ -58,9 +61,9 @@ impl InputTape for TextInput {
     ghost waiting = { λ t. t };
 
     fn take(&mut self) -> Option<i32> {
-        let (line, _) = self.bytes[self.next..].split_first_chunk::<12>()?;
+        let (line, _) = self.bytes[self.next..].split_first_chunk::<LINE_LENGTH>()?;
         let x = read_line(line)?;
-        self.next += 12;
+        self.next += LINE_LENGTH;
         Some(x)
     }
 }

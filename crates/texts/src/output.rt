@@ -4,7 +4,7 @@ ghost use Rattle.lines.specs.Lines.{line_of};
 ghost use Rattle.tapes.specs.Meaning.{unwritten, filling_means, filling_bounded};
 ghost use Rattle.texts.specs.Texts.{lines_of};
 
-use lines::write_line;
+use lines::{LINE_LENGTH, write_line};
 use std::marker::Model;
 use tapes::output::{OutputTape, Pinch};
 
@@ -33,7 +33,7 @@ impl TextOutput {
     pub fn new(mut memory: Vec<u8>) -> TextOutput
         ensures { result ≡ unwritten (length memory.items / 12) }
     {
-        let left = memory.len() / 12;
+        let left = memory.len() / LINE_LENGTH;
         memory.clear();
         TextOutput { text: memory, left }
     }

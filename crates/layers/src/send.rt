@@ -9,6 +9,6 @@ pub(crate) fn send<O: OutputTape>(output: &mut O, words: &[i32])
     ensures { Sent (O.means output.old) words.now (O.means output.new) }
 {
     for word in words {
-        let _ = output.put(*word);
+        output.put(*word).unwrap();
     }
 }

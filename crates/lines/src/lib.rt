@@ -7,13 +7,16 @@ ghost use Rattle.lines.specs.Lines.{line_of, Read, OneLineEach};
 use itoa::Buffer;
 use std::str;
 
+// The bytes of a line.
+pub const LINE_LENGTH: usize = 12;
+
 // The line of a number.
-pub fn write_line(x: i32) -> [u8; 12]
+pub fn write_line(x: i32) -> [u8; LINE_LENGTH]
     ensures { result ≡ line_of x }
 {
     let mut buffer = Buffer::new();
     let number = buffer.format(x).as_bytes();
-    let mut line = [b' '; 12];
+    let mut line = [b' '; LINE_LENGTH];
     line[11] = b'\n';
     line[11 - number.len()..11].copy_from_slice(number);
     line

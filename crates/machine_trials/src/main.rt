@@ -22,6 +22,7 @@ use units::strict::Strict;
 #[derive(Clone, Copy)]
 struct Case<'a> {
     name: &'a str,
+    // no instructions, so that admission decodes them too
     words: &'a [u32],
     input: &'a [i32],
     room: usize,
@@ -266,11 +267,9 @@ impl Arithmetic for Hundred {
     ghost inside = { strict_inside (negsuc 99) (pos 100) };
 
     fn narrow(&self, x: i64) -> Option<i32> {
-        if x < -100 || x > 100 {
-            None
-        } else {
-            Some(x as i32)
-        }
+        i32::try_from(x)
+            .ok()
+            .filter(|v| (Self::LEAST..=Self::GREATEST).contains(v))
     }
 }
 
@@ -347,6 +346,7 @@ fn try_all<U: Arithmetic + Copy>(rt: &HostRuntime, unit: U, cases: &[Case]) -> a
 fn on_full_stack(rt: &HostRuntime, name: &str, last: u32) -> anyhow::Result<()> {
     let mut words = vec![in rt.alloc(); 0x8000_0007; 68]?;
     words.push(last)?;
+    // not `..NINE_STEPS`: the borrow checker covers no reference that lives as long as two lifetimes have in common
     let case = Case {
         name,
         words: words.as_slice(),

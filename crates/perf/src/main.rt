@@ -12,6 +12,7 @@ use units::strict::Strict;
 // A loop that never ends.
 struct Loop {
     name: &'static str,
+    // no instructions, so that admission decodes them too
     words: &'static [u32],
 }
 

@@ -30,6 +30,10 @@ readings_suc (suc n) bs =
 pub readings_more : (n : ℕ) (bs : List ℕ) → readings (n + 1) bs ≡ readings n bs ++ number_in (take 12 (drop (12 * n) bs)) ∷ []
 readings_more n bs = ap (λ k. readings k bs) (add-one n) ∙ readings_suc n bs
 
+pub readings_long : (n : ℕ) (bs : List ℕ) → length (readings n bs) ≡ n
+readings_long zero bs = refl
+readings_long (suc n) bs = ap suc (readings_long n (drop 12 bs))
+
 -- lists of 32-bit numbers
 pub words_push : (xs : List ℤ) (x : ℤ) → Words xs → Word x → Words (xs ++ x ∷ [])
 words_push xs x w h k l =

@@ -1,10 +1,10 @@
 // An input tape over text, one number to a line.
-ghost use Rattle.std.specs.Prelude.{◌≡◌, MatchResult};
+ghost use Rattle.std.specs.Prelude.{◌≡◌, length, MatchResult};
 ghost use Rattle.texts.specs.Texts.{lines_of, Words, FirstBad, Lines};
 ghost use Rattle.texts.specs.Refusals.{place_of};
 
 use crate::refusals::Refusal;
-use lines::read_line;
+use lines::{LINE_LENGTH, read_line};
 use std::marker::Model;
 use tapes::input::InputTape;
 
@@ -34,13 +34,24 @@ impl TextInput {
         check(&bytes)?;
         Ok(TextInput { bytes, next: 0 })
     }
+
+    // How many numbers wait, each of 32 bits.
+    pub fn len(&self) -> usize
+        ensures len { result ≡ length self.now }
+        ensures words { Words self.now }
+    {
+        self.bytes[self.next..].len() / LINE_LENGTH
+    }
 }
 
 // Refuses the first line that is no number's.
 fn check(bytes: &[u8]) -> Result<(), Refusal>
     ensures { MatchResult result (λ _. Lines bytes.now) (λ e. FirstBad bytes.now (place_of e)) }
 {
-    match bytes.chunks(12).position(|line| read_line(line).is_none()) {
+    match bytes
+        .chunks(LINE_LENGTH)
+        .position(|line| read_line(line).is_none())
+    {
         Some(before) => Err(Refusal::NotALine(before + 1)),
         None => Ok(()),
     }
@@ -50,9 +61,9 @@ impl InputTape for TextInput {
     ghost waiting = { λ t. t };
 
     fn take(&mut self) -> Option<i32> {
-        let (line, _) = self.bytes[self.next..].split_first_chunk::<12>()?;
+        let (line, _) = self.bytes[self.next..].split_first_chunk::<LINE_LENGTH>()?;
         let x = read_line(line)?;
-        self.next += 12;
+        self.next += LINE_LENGTH;
         Some(x)
     }
 }

@@ -4,10 +4,11 @@ ghost use Rattle.lines.specs.Lines.{line_of};
 ghost use Rattle.tapes.specs.Meaning.{unwritten, filling_means, filling_bounded};
 ghost use Rattle.texts.specs.Texts.{lines_of};
 
-use lines::write_line;
+use lines::{LINE_LENGTH, write_line};
 use std::marker::Model;
 use tapes::output::{OutputTape, Pinch};
 
+// No generic tape with WordOutput: to one of another crate no `text` can be added, and a struct around it passes on each method.
 #[derive(Drop)]
 pub struct TextOutput {
     text: Vec<u8>,
@@ -32,7 +33,7 @@ impl TextOutput {
     pub fn new(mut memory: Vec<u8>) -> TextOutput
         ensures { result ≡ unwritten (length memory.items / 12) }
     {
-        let left = memory.len() / 12;
+        let left = memory.len() / LINE_LENGTH;
         memory.clear();
         TextOutput { text: memory, left }
     }
@@ -52,7 +53,7 @@ fn append_line(text: &mut Vec<u8>, x: i32)
     ensures len { vec_len text.new ≡ vec_len text.old + 12 }
     ensures capacity { vec_capacity text.old ≤ vec_capacity text.new }
 {
-    let _ = text.extend_from_slice(&write_line(x));
+    text.extend_from_slice(&write_line(x)).unwrap();
 }
 
 impl OutputTape for TextOutput {

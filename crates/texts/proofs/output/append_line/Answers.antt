@@ -11,7 +11,7 @@ returns c =
     let long = ap length line ∙ line_long c.args.x c.ranges.x.sfits in
     let ok : IsOk c.extend_from_slice.result = c.extend_from_slice.ensures.succeeds (omega (arith, c.requires, long)) in
     record {
-      items = rw (ok, line) at c.extend_from_slice.ensures.items;
+      items = grind (arith, ok, line, c.extend_from_slice.ensures.items);
       len = rw (ok, long) at c.extend_from_slice.ensures.len;
       capacity = c.extend_from_slice.ensures.capacity;
     }

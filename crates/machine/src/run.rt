@@ -3,6 +3,7 @@ ghost use Rattle.std.specs.Prelude.{◌^◌, ◌<◌, ◌≤◌};
 
 use crate::fault::Fault;
 use image::admitted::Image;
+use std::marker::Model;
 
 // What an advance keeps at hand: beside Memory, so that the compiler keeps counter and steps in registers.
 #[derive(Clone, Copy)]
@@ -19,7 +20,19 @@ pub struct Core {
 pub struct Stack {
     pub(crate) words: [i32; 68],
     pub(crate) depth: usize,
-    ghost bounded: { depth ≤ 68 },
+}
+
+// Clauses see the words, the top first.
+impl Model for Stack {
+    ghost use Rattle.std.specs.Prelude.{List, ℤ, ◌≤◌};
+
+    ghost Value = { List ℤ };
+
+    ghost use Rattle.machine.specs.View.{tops};
+
+    ghost view = { λ s. tops s.words s.depth };
+
+    ghost invariant = { λ s. s.depth ≤ 68 };
 }
 
 // What the instructions work on.

@@ -2,8 +2,8 @@
 ghost use Rattle.std.specs.Prelude.{◌^◌, ◌<◌, ◌≤◌};
 
 use crate::fault::Fault;
+pub use crate::stack::Stack;
 use image::admitted::Image;
-use std::marker::Model;
 
 // What an advance keeps at hand: beside Memory, so that the compiler keeps counter and steps in registers.
 #[derive(Clone, Copy)]
@@ -12,27 +12,6 @@ pub struct Core {
     pub(crate) steps: u64,
     pub(crate) fault: Option<Fault>,
     ghost counted: { 1 ≤ counter },
-}
-
-// At most 68 words, the last of the first `depth` on top. With an ArrayVec 20 million steps of a loop took 0.044 and not
-// 0.037 seconds.
-#[derive(Drop)]
-pub struct Stack {
-    pub(crate) words: [i32; 68],
-    pub(crate) depth: usize,
-}
-
-// Clauses see the words, the top first.
-impl Model for Stack {
-    ghost use Rattle.std.specs.Prelude.{List, ℤ, ◌≤◌};
-
-    ghost Value = { List ℤ };
-
-    ghost use Rattle.machine.specs.View.{tops};
-
-    ghost view = { λ s. tops s.words s.depth };
-
-    ghost invariant = { λ s. s.depth ≤ 68 };
 }
 
 // What the instructions work on.

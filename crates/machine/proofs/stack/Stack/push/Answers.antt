@@ -1,7 +1,7 @@
 use Rattle.std.proofs.Common.{◌≡◌, ◌<◌, ◌∷◌, length, ℤ, List, ap, ◌∙◌, arith, w32, rules}
 use Rattle.std.proofs.lemmas.Int.{to_z-of_z}
 use Rattle.machine.proofs.Stacks.{length_tops, tops_push}
-use Rattle.machine.proofs.run.Stack.push.Goals as goal
+use Rattle.machine.proofs.stack.Stack.push.Goals as goal
 
 pub returns : goal.returns
 returns c =

@@ -1,7 +1,7 @@
 use Rattle.std.proofs.Common.{◌-◌, get_or, pos, Some, sym, ap, ◌∙◌, arith, w32, SFits, rules}
 use Rattle.std.proofs.lemmas.Int.{to_z-of_z}
 use Rattle.machine.proofs.Stacks.{no_word, a_word}
-use Rattle.machine.proofs.run.Stack.word.Goals as goal
+use Rattle.machine.proofs.stack.Stack.word.Goals as goal
 
 pub returns-then-place-self : goal.returns-then-place-self
 returns-then-place-self c = rw (← c.self.view_is) (sym (no_word c.self.inside.words c.self.inside.depth c.args.place (omega arith)))

@@ -1,6 +1,6 @@
 use Rattle.std.proofs.Common.{◌-◌, get_or, pos, arith, w32, SFits, rules}
 use Rattle.machine.proofs.Stacks.{length_tops, two, widened}
-use Rattle.machine.proofs.run.Stack.operands.Goals as goal
+use Rattle.machine.proofs.stack.Stack.operands.Goals as goal
 
 pub returns : goal.returns
 returns c =

@@ -1,6 +1,6 @@
 use Rattle.std.proofs.Common.{refl, arith}
 use Rattle.machine.proofs.Stacks.{length_tops, space, no_space}
-use Rattle.machine.proofs.run.Stack.room.Goals as goal
+use Rattle.machine.proofs.stack.Stack.room.Goals as goal
 
 pub returns-then-self-ge68 : goal.returns-then-self-ge68
 returns-then-self-ge68 c = record { words = (refl, rw (← c.self.view_is) (no_space _ _ c.if-self-ge68.true)); space = tt }

@@ -92,9 +92,6 @@ impl Stack {
     pub(crate) fn word(&self, place: usize) -> Option<i32>
         ensures { result ≡ nth self.now place }
     {
-        if place >= self.depth {
-            return None;
-        }
-        Some(self.words[self.depth - 1 - place])
+        self.words[..self.depth].iter().rev().nth(place).copied()
     }
 }

@@ -1,5 +1,6 @@
 -- What a run stands for: the state of the machine AM.
 --   unit_of    a unit by its range and its narrowing
+--   unit       the unit that a type of arithmetic is
 --   tops       the stack as a list: the first n words of its memory, the last of them first
 --   tapes_of   both tapes by their meanings
 --   world_of   cells and tapes
@@ -15,6 +16,7 @@
 --   Popped     the top word
 --   truth      the word of an answer
 use Rattle.std.specs.Prelude.{◌≡◌, ℕ, zero, suc, ◌<◌, Bool, true, false, List, [], ◌∷◌, length, drop, ℤ, pos, negsuc, ◌≤ℤ◌, Some, None, Ok, Err, Option, Result, OnErr, nat_lt, slice_index_or}
+use Rattle.units.specs.declared.arithmetic.Arithmetic.{Ghosts}
 use Rattle.tapes.specs.Meaning.{Meaning, KeptAtRest}
 use Rattle.code.specs.declared.Instruction.{Instruction}
 use Rattle.code.specs.World.{ArithmeticUnit, Tapes, World}
@@ -28,6 +30,9 @@ use Rattle.machine.specs.declared.run.Memory.{Memory}
 
 abbrev pub unit_of : ℤ → ℤ → (ℤ → Option ℤ) → ArithmeticUnit
 unit_of least greatest narrowed = record { least = least; greatest = greatest; narrow = narrowed }
+
+abbrev pub unit : {U : Type 0} → Ghosts U → ArithmeticUnit
+unit u = unit_of u.LEAST u.GREATEST u.narrowed
 
 abbrev pub tops : List ℤ → ℕ → List ℤ
 tops xs zero = []

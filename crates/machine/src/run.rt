@@ -1,6 +1,7 @@
 // The state of a run.
 ghost use Rattle.std.specs.Prelude.{◌^◌, ◌<◌, ◌≤◌};
 
+use crate::cell::CELLS;
 use crate::fault::Fault;
 pub use crate::stack::Stack;
 use image::admitted::Image;
@@ -20,7 +21,7 @@ pub struct Memory<U, I, O> {
     pub(crate) unit: U,
     pub(crate) input: I,
     pub(crate) output: O,
-    pub(crate) cells: [Option<i32>; 64],
+    pub(crate) cells: [Option<i32>; CELLS],
     pub(crate) stack: Stack,
 }
 

@@ -6,11 +6,13 @@ ghost use Rattle.machine.specs.View.{Room, Operands, Popped};
 use crate::fault::Cause;
 use std::marker::Model;
 
+const MOST: usize = 68;
+
 // At most 68 words, the last of the first `depth` on top. With an ArrayVec 20 million steps of a loop took 0.044 and not
 // 0.037 seconds.
 #[derive(Drop)]
 pub struct Stack {
-    words: [i32; 68],
+    words: [i32; MOST],
     depth: usize,
 }
 
@@ -21,10 +23,11 @@ impl Model for Stack {
     ghost Value = { List ℤ };
 
     ghost use Rattle.machine.specs.View.{tops};
+    ghost use Rattle.machine.specs.declared.stack.TheConstants.{MOST};
 
     ghost view = { λ s. tops s.words s.depth };
 
-    ghost invariant = { λ s. s.depth ≤ 68 };
+    ghost invariant = { λ s. s.depth ≤ MOST };
 }
 
 impl Stack {
@@ -32,7 +35,7 @@ impl Stack {
         ensures { result ≡ [] }
     {
         Stack {
-            words: [0; 68],
+            words: [0; MOST],
             depth: 0,
         }
     }
@@ -40,16 +43,16 @@ impl Stack {
     // Whether there is room for one word more.
     pub(crate) fn room(&self) -> Result<(), Cause>
         ensures words { Room self.now result }
-        ensures space { OnOk result (length self.now < 68) }
+        ensures space { OnOk result (length self.now < MOST) }
     {
-        if self.depth >= 68 {
+        if self.depth >= MOST {
             return Err(Cause::StackFull);
         }
         Ok(())
     }
 
     pub(crate) fn push(&mut self, v: i32)
-        requires room { length self.old < 68 }
+        requires room { length self.old < MOST }
         ensures { self.new ≡ v ∷ self.old }
     {
         self.words[self.depth] = v;

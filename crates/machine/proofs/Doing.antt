@@ -6,7 +6,7 @@ use Rattle.code.specs.World.{World}
 use Rattle.code.specs.Machine.{Step, stepped}
 use Rattle.code.specs.Machine as am
 use Rattle.machine.specs.Numbers.{cause_of}
-use Rattle.machine.specs.View.{words_of, world_of, run_of, closed, Did, Done}
+use Rattle.machine.specs.View.{world_of, run_of, closed, Did, Done}
 use Rattle.machine.specs.Steps.{Went}
 use Rattle.machine.specs.declared.fault.Cause.{Cause}
 use Rattle.machine.specs.declared.run.Core.{Core}
@@ -23,10 +23,10 @@ module _ {U I O : Type 0} (waiting : I → List ℤ) (means : O → Meaning) whe
       by : (r : Result X Cause) → Went r a b → Did waiting means s a.counter m r n → stepped (run_of waiting means a m) s ≡ closed r (run_of waiting means b n)
       by (Ok x) w d =
           ap (stepped (run_of waiting means a m)) d.effect
-          ∙ ap (λ k. at k (words_of n.stack) (world_of waiting means n) (suc a.steps) None) (sym (w.counter ∙ add-one a.counter))
-          ∙ ap (λ k. at b.counter (words_of n.stack) (world_of waiting means n) (suc k) None) (sym w.steps)
+          ∙ ap (λ k. at k n.stack (world_of waiting means n) (suc a.steps) None) (sym (w.counter ∙ add-one a.counter))
+          ∙ ap (λ k. at b.counter n.stack (world_of waiting means n) (suc k) None) (sym w.steps)
       by (Err c) w d =
           ap (stepped (run_of waiting means a m)) d.effect
-          ∙ ap (λ k. at k (words_of m.stack) (world_of waiting means n) a.steps (Some (k, cause_of c))) (sym w.counter)
+          ∙ ap (λ k. at k m.stack (world_of waiting means n) a.steps (Some (k, cause_of c))) (sym w.counter)
           ∙ ap (λ st. at b.counter st (world_of waiting means n) a.steps (Some (b.counter, cause_of c))) (sym d.stays)
-          ∙ ap (λ k. at b.counter (words_of n.stack) (world_of waiting means n) k (Some (b.counter, cause_of c))) (sym w.steps)
+          ∙ ap (λ k. at b.counter n.stack (world_of waiting means n) k (Some (b.counter, cause_of c))) (sym w.steps)

@@ -7,7 +7,7 @@ use Rattle.code.specs.World.{ArithmeticUnit}
 use Rattle.code.specs.Machine.{execute, stepped, once_with, once, moves, fetch}
 use Rattle.code.specs.Machine as am
 use Rattle.machine.specs.Numbers.{cause_of, fault_of}
-use Rattle.machine.specs.View.{words_of, world_of, run_of, closed, Acted}
+use Rattle.machine.specs.View.{world_of, run_of, closed, Acted}
 use Rattle.machine.specs.Steps.{status_of, Closed, Made, Halted, OneStep, Stepped}
 use Rattle.machine.specs.declared.fault.Cause.{Cause}
 use Rattle.machine.specs.declared.fault.Fault.{Fault}
@@ -78,7 +78,7 @@ module _ {U I O : Type 0} (unit : ArithmeticUnit) (code : List Instruction) (wai
       record { moved = record { rests = ap (λ n. moves unit code n (run_of waiting means a m)) none; counted = refl }; kept = omega arith }
 
   abbrev at : Memory U I O → ℕ → ℕ → Option Fault → am.Run
-  at n k s f = record { counter = k; stack = words_of n.stack; world = world_of waiting means n; steps = s; fault = fault_of f }
+  at n k s f = record { counter = k; stack = n.stack; world = world_of waiting means n; steps = s; fault = fault_of f }
 
   same_at : (n : Memory U I O) (k k' s s' : ℕ) (f f' : Option Fault) → k ≡ k' → s ≡ s' → f ≡ f' → at n k s f ≡ at n k' s' f'
   same_at n k k' s s' f f' ek es ef =
@@ -90,7 +90,7 @@ module _ {U I O : Type 0} (unit : ArithmeticUnit) (code : List Instruction) (wai
   close_is (Err q) b e n clear c =
       same_at n e.counter b.counter e.steps b.steps e.fault _ c.counter c.steps c.fault
 
-  once_acted : (a : Core) (m : Memory U I O) (i : Instruction) → a.fault ≡ None → Some i ≡ fetch code a.counter → once unit code (run_of waiting means a m) ≡ stepped (run_of waiting means a m) (execute unit i a.counter (words_of m.stack) (world_of waiting means m))
+  once_acted : (a : Core) (m : Memory U I O) (i : Instruction) → a.fault ≡ None → Some i ≡ fetch code a.counter → once unit code (run_of waiting means a m) ≡ stepped (run_of waiting means a m) (execute unit i a.counter m.stack (world_of waiting means m))
   once_acted a m i clear e =
       let p = run_of waiting means a m in
       ap (once_with unit p p.fault) (sym e) ∙ ap (λ f. once_with unit p (fault_of f) (Some i)) clear

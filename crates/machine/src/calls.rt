@@ -3,9 +3,10 @@ ghost use Rattle.std.specs.Prelude.{◌≡◌, ◌+◌};
 ghost use Rattle.code.specs.Machine.{start, advance, status};
 ghost use Rattle.tapes.specs.Meaning.{KeptAtRest};
 ghost use Rattle.machine.specs.Numbers.{status_number};
-ghost use Rattle.machine.specs.View.{unit_of, tapes_of};
+ghost use Rattle.machine.specs.View.{unit, tapes_of};
 ghost use Rattle.machine.specs.Runs.{code_of, state_of};
 
+use crate::cell::CELLS;
 use crate::run::{Core, Memory, Run, Stack};
 use crate::status::Status;
 use image::admitted::Image;
@@ -40,7 +41,7 @@ impl<'a, U: Arithmetic, I: InputTape, O: OutputTape> Run<'a, U, I, O> {
                 unit,
                 input,
                 output,
-                cells: [None; 64],
+                cells: [None; CELLS],
                 stack: Stack::new(),
             },
         }
@@ -48,7 +49,7 @@ impl<'a, U: Arithmetic, I: InputTape, O: OutputTape> Run<'a, U, I, O> {
 
     // Makes up to an allowance of steps. One that has ended or faulted, or is at its lid, makes none.
     pub fn advance(&mut self, allowance: u32) -> Advanced
-        ensures moved { state_of I.waiting O.means self.new ≡ advance (unit_of U.LEAST U.GREATEST U.narrowed) (code_of self.old) self.old.lid allowance (state_of I.waiting O.means self.old) }
+        ensures moved { state_of I.waiting O.means self.new ≡ advance (unit U.Arithmetic) (code_of self.old) self.old.lid allowance (state_of I.waiting O.means self.old) }
         ensures image { self.new.image ≡ self.old.image }
         ensures lid { self.new.lid ≡ self.old.lid }
         ensures steps { self.new.core.steps ≡ self.old.core.steps + result.steps }

@@ -3,7 +3,7 @@ ghost use Rattle.std.specs.Prelude.{◌≡◌, ◌≤◌, ℕ, ℤ, true, false}
 ghost use Rattle.code.specs.declared.Instruction.TheVariants.{Literal, Read, Write, Load, Store};
 ghost use Rattle.code.specs.Division.{is_zero};
 ghost use Rattle.image.specs.Bounds.{inside};
-ghost use Rattle.machine.specs.View.{unit_of, words_of, world_of, Word, Acted, Worked, Did};
+ghost use Rattle.machine.specs.View.{unit, world_of, Word, Acted, Worked, Did};
 ghost use Rattle.machine.specs.Closures.{Computes, Divides, Decides, operation, dividing, comparing};
 
 use crate::cell::Cell;
@@ -21,7 +21,7 @@ impl<U: Arithmetic, I: InputTape, O: OutputTape> Memory<U, I, O> {
     pub(crate) fn execute(&mut self, core: &mut Core, instruction: Instruction) -> Result<(), Cause>
         requires sound { (len : ℕ) × (inside len instruction ≡ true) }
         requires placed { core.old.counter ≤ 4096 }
-        ensures { Acted (unit_of U.LEAST U.GREATEST U.narrowed) I.waiting O.means instruction core.old self.old result core.new self.new }
+        ensures { Acted (unit U.Arithmetic) I.waiting O.means instruction core.old self.old result core.new self.new }
     {
         match instruction {
             Instruction::Literal(z) => core.go_on(self.literal(z)),
@@ -56,7 +56,7 @@ impl<U: Arithmetic, I: InputTape, O: OutputTape> Memory<U, I, O> {
     }
 
     fn literal(&mut self, z: i32) -> Result<(), Cause>
-        ensures { (address : ℕ) → Worked (unit_of U.LEAST U.GREATEST U.narrowed) I.waiting O.means (Literal z) address self.old result self.new }
+        ensures { (address : ℕ) → Worked (unit U.Arithmetic) I.waiting O.means (Literal z) address self.old result self.new }
     {
         self.stack.room()?;
         let v = self.unit.narrow(i64::from(z)).ok_or(Cause::OutOfRange)?;
@@ -65,7 +65,7 @@ impl<U: Arithmetic, I: InputTape, O: OutputTape> Memory<U, I, O> {
     }
 
     fn load(&mut self, cell: Cell) -> Result<(), Cause>
-        ensures { (address : ℕ) → Worked (unit_of U.LEAST U.GREATEST U.narrowed) I.waiting O.means (Load cell.number) address self.old result self.new }
+        ensures { (address : ℕ) → Worked (unit U.Arithmetic) I.waiting O.means (Load cell.number) address self.old result self.new }
     {
         self.stack.room()?;
         let v = self.cells[cell.index()].ok_or(Cause::Unset)?;
@@ -74,7 +74,7 @@ impl<U: Arithmetic, I: InputTape, O: OutputTape> Memory<U, I, O> {
     }
 
     fn store(&mut self, cell: Cell) -> Result<(), Cause>
-        ensures { (address : ℕ) → Worked (unit_of U.LEAST U.GREATEST U.narrowed) I.waiting O.means (Store cell.number) address self.old result self.new }
+        ensures { (address : ℕ) → Worked (unit U.Arithmetic) I.waiting O.means (Store cell.number) address self.old result self.new }
     {
         let v = self.stack.pop()?;
         self.cells[cell.index()] = Some(v);
@@ -82,7 +82,7 @@ impl<U: Arithmetic, I: InputTape, O: OutputTape> Memory<U, I, O> {
     }
 
     fn read(&mut self, cell: Cell) -> Result<(), Cause>
-        ensures { (address : ℕ) → Worked (unit_of U.LEAST U.GREATEST U.narrowed) I.waiting O.means (Read cell.number) address self.old result self.new }
+        ensures { (address : ℕ) → Worked (unit U.Arithmetic) I.waiting O.means (Read cell.number) address self.old result self.new }
     {
         let x = self.input.take().ok_or(Cause::NoInput)?;
         let v = self.unit.narrow(i64::from(x)).ok_or(Cause::OutOfRange)?;
@@ -91,7 +91,7 @@ impl<U: Arithmetic, I: InputTape, O: OutputTape> Memory<U, I, O> {
     }
 
     fn write(&mut self, cell: Cell) -> Result<(), Cause>
-        ensures { (address : ℕ) → Worked (unit_of U.LEAST U.GREATEST U.narrowed) I.waiting O.means (Write cell.number) address self.old result self.new }
+        ensures { (address : ℕ) → Worked (unit U.Arithmetic) I.waiting O.means (Write cell.number) address self.old result self.new }
     {
         let v = self.cells[cell.index()].ok_or(Cause::Unset)?;
         self.output.put(v)?;
@@ -101,7 +101,7 @@ impl<U: Arithmetic, I: InputTape, O: OutputTape> Memory<U, I, O> {
     // An operation on two words, whose exact result is brought into the unit's range.
     fn operate<F: FnOnce(i64, i64) -> i64>(&mut self, f: F) -> Result<(), Cause>
         requires callable { (x y : ℤ) → Word x → Word y → F.pre f x y }
-        ensures { (address : ℕ) (g : ℤ → ℤ → ℤ) → Computes (F.post f) g → Did I.waiting O.means (operation address (words_of self.old.stack) (world_of I.waiting O.means self.old) U.narrowed g) address self.old result self.new }
+        ensures { (address : ℕ) (g : ℤ → ℤ → ℤ) → Computes (F.post f) g → Did I.waiting O.means (operation address self.old.stack (world_of I.waiting O.means self.old) U.narrowed g) address self.old result self.new }
     {
         let (x, y) = self.stack.operands()?;
         let v = self.unit.narrow(f(x, y)).ok_or(Cause::OutOfRange)?;
@@ -112,7 +112,7 @@ impl<U: Arithmetic, I: InputTape, O: OutputTape> Memory<U, I, O> {
     // The same of one that needs a divisor.
     fn divide<F: FnOnce(i64, i64) -> i64>(&mut self, f: F) -> Result<(), Cause>
         requires callable { (x y : ℤ) → Word x → Word y → is_zero y ≡ false → F.pre f x y }
-        ensures { (address : ℕ) (g : ℤ → ℤ → ℤ) → Divides (F.post f) g → Did I.waiting O.means (dividing address (words_of self.old.stack) (world_of I.waiting O.means self.old) U.narrowed g) address self.old result self.new }
+        ensures { (address : ℕ) (g : ℤ → ℤ → ℤ) → Divides (F.post f) g → Did I.waiting O.means (dividing address self.old.stack (world_of I.waiting O.means self.old) U.narrowed g) address self.old result self.new }
     {
         let (x, y) = self.stack.operands()?;
         if y == 0 {
@@ -126,7 +126,7 @@ impl<U: Arithmetic, I: InputTape, O: OutputTape> Memory<U, I, O> {
     // A comparison of two words, which leaves 1 or 0.
     fn compare<F: FnOnce(i64, i64) -> bool>(&mut self, f: F) -> Result<(), Cause>
         requires callable { F.IsAlwaysCallable f }
-        ensures { (address : ℕ) (g : ℤ → ℤ → ℤ) → Decides (F.post f) g → Did I.waiting O.means (comparing address (words_of self.old.stack) (world_of I.waiting O.means self.old) g) address self.old result self.new }
+        ensures { (address : ℕ) (g : ℤ → ℤ → ℤ) → Decides (F.post f) g → Did I.waiting O.means (comparing address self.old.stack (world_of I.waiting O.means self.old) g) address self.old result self.new }
     {
         let (x, y) = self.stack.operands()?;
         self.stack.replace(i32::from(f(x, y)));

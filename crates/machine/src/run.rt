@@ -1,7 +1,9 @@
 // The state of a run.
 ghost use Rattle.std.specs.Prelude.{◌^◌, ◌<◌, ◌≤◌};
 
+use crate::cell::CELLS;
 use crate::fault::Fault;
+pub use crate::stack::Stack;
 use image::admitted::Image;
 
 // What an advance keeps at hand: beside Memory, so that the compiler keeps counter and steps in registers.
@@ -13,22 +15,13 @@ pub struct Core {
     ghost counted: { 1 ≤ counter },
 }
 
-// At most 68 words, the last of the first `depth` on top. With an ArrayVec 20 million steps of a loop took 0.044 and not
-// 0.037 seconds.
-#[derive(Drop)]
-pub struct Stack {
-    pub(crate) words: [i32; 68],
-    pub(crate) depth: usize,
-    ghost bounded: { depth ≤ 68 },
-}
-
 // What the instructions work on.
 #[derive(Drop)]
 pub struct Memory<U, I, O> {
     pub(crate) unit: U,
     pub(crate) input: I,
     pub(crate) output: O,
-    pub(crate) cells: [Option<i32>; 64],
+    pub(crate) cells: [Option<i32>; CELLS],
     pub(crate) stack: Stack,
 }
 

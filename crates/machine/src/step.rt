@@ -2,7 +2,7 @@
 ghost use Rattle.std.specs.Prelude.{◌≡◌, ◌-◌, ◌^◌, ◌<◌, ◌≤◌, true, length, is_ok};
 ghost use Rattle.code.specs.Machine.{fetch};
 ghost use Rattle.image.specs.Bounds.{all_inside};
-ghost use Rattle.machine.specs.View.{unit_of};
+ghost use Rattle.machine.specs.View.{unit};
 ghost use Rattle.machine.specs.Steps.{status_of, Went, Closed, Stepped};
 
 use crate::fault::{Cause, Fault};
@@ -79,7 +79,7 @@ impl Core {
     ) -> bool
         requires few { length code.now ≤ 4096 }
         requires sound { all_inside (length code.now) code.now ≡ true }
-        ensures { Stepped (unit_of U.LEAST U.GREATEST U.narrowed) I.waiting O.means code.now limit self.old memory.old result self.new memory.new }
+        ensures { Stepped (unit U.Arithmetic) I.waiting O.means code.now limit self.old memory.old result self.new memory.new }
     {
         let Some(instruction) = instruction_at(code, self.counter) else {
             return false;

@@ -1,10 +1,15 @@
 -- Operations on two words, and what fits 64 bits.
-use Rattle.std.proofs.Common.{◌≡◌, ℕ, zero, suc, ◌+◌, ◌*◌, ◌^◌, ◌<◌, ◌≤◌, ℤ, pos, negsuc, ◌-ℤ◌, ◌*ℤ◌, neg_ℤ, ap, ◌∙◌, mul-le-mul, div-le_self, arith, w64, SFits, to_z, of_z, rules}
+use Rattle.std.proofs.Common.{◌≡◌, ℕ, zero, suc, ◌+◌, ◌*◌, ◌^◌, ◌≤◌, List, [], ◌∷◌, Option, Result, refl, ℤ, pos, negsuc, ◌*ℤ◌, neg_ℤ, ◌∙◌, mul-le-mul, arith, w64, SFits, to_z, of_z}
 use borrow.Author.Differences.{ints}
 use lib.Signed.{mag}
 use Rattle.std.proofs.lemmas.Int.{to_z-of_z}
-use Rattle.code.specs.Division.{quotient, remainder}
-use Rattle.machine.specs.View.{Word}
+use Rattle.code.specs.World.{World}
+use Rattle.code.specs.Machine.{pop_two, division}
+use Rattle.tapes.specs.Meaning.{Meaning}
+use Rattle.machine.specs.declared.fault.Cause.{Cause}
+use Rattle.machine.specs.declared.run.Memory.{Memory}
+use Rattle.machine.specs.Closures.{divided, operation}
+use Rattle.machine.specs.View.{world_of, Word, Did}
 use Rattle.machine.proofs.Stacks.{word_fits}
 
 mag_neg : (n : ℕ) → mag (neg_ℤ (pos n)) ≤ n
@@ -30,10 +35,6 @@ word_mag : (z : ℤ) → Word z → mag z ≤ 2 ^ 31
 word_mag (pos n) h = omega (arith, ints, h.high)
 word_mag (negsuc n) h = omega (arith, ints, h.low)
 
-word_less : (z : ℤ) → Word z → mag z < 2 ^ 31
-word_less (pos n) h = omega (arith, ints, h.high)
-word_less (negsuc n) h = omega (arith, ints, h.low)
-
 -- the product of two words, widened first
 pub multiplied : (x y : ℤ) → Word x → Word y → SFits w64 (to_z w64 (of_z w64 x) *ℤ to_z w64 (of_z w64 y)) × (to_z w64 (of_z w64 (to_z w64 (of_z w64 x) *ℤ to_z w64 (of_z w64 y))) ≡ x *ℤ y)
 multiplied x y hx hy =
@@ -42,47 +43,13 @@ multiplied x y hx hy =
     let f : SFits w64 (x *ℤ y) = product_fits x y (word_mag x hx) (word_mag y hy) in
     rw (ex, ey) (f, to_z-of_z w64 (x *ℤ y) f)
 
-quotient_mag : (x y : ℤ) → mag x < 2 ^ 31 → mag (quotient x y) ≤ 2 ^ 31
-quotient_mag (pos a) (pos b) h = let l = div-le_self a b in omega (arith, l)
-quotient_mag (pos zero) (negsuc b) h = omega arith
-quotient_mag (pos (suc a)) (negsuc b) h = let l = div-le_self a (suc b) in omega (arith, l)
-quotient_mag (negsuc a) (pos b) h = let l = div-le_self a b in omega (arith, l)
-quotient_mag (negsuc a) (negsuc b) h = let l = div-le_self (suc a) (suc b) in omega (arith, l)
+-- a division as an operation that may refuse
+divides : (a : ℕ) (st : List ℤ) (w : World) (narrow : ℤ → Option ℤ) (g : ℤ → ℤ → ℤ) → pop_two st w (λ x y r. division a r w y (narrow (g x y))) ≡ operation a st w narrow (divided g)
+divides a [] w narrow g = refl
+divides a (y ∷ []) w narrow g = refl
+divides a (pos zero ∷ x ∷ st) w narrow g = refl
+divides a (pos (suc n) ∷ x ∷ st) w narrow g = refl
+divides a (negsuc n ∷ x ∷ st) w narrow g = refl
 
-difference_fits : (x p : ℤ) → mag x ≤ 2 ^ 31 → mag p ≤ 2 ^ 62 + 2 ^ 33 → SFits w64 (x -ℤ p)
-difference_fits x p h k = search rules
-
--- what is left of a dividend, each part widened first
-module _ (x y q : ℤ) (hx : Word x) (hy : Word y) (was : q ≡ quotient (to_z w64 (of_z w64 x)) (to_z w64 (of_z w64 y))) where
-  wide_x : to_z w64 (of_z w64 x) ≡ x
-  wide_x = to_z-of_z w64 x (word_fits x hx)
-
-  wide_y : to_z w64 (of_z w64 y) ≡ y
-  wide_y = to_z-of_z w64 y (word_fits y hy)
-
-  is : q ≡ quotient x y
-  is = was ∙ ap (λ z. quotient z (to_z w64 (of_z w64 y))) wide_x ∙ ap (quotient x) wide_y
-
-  quotient_small : mag q ≤ 2 ^ 31
-  quotient_small = rw is (quotient_mag x y (omega (arith, word_less x hx)))
-
-  wide_q : to_z w64 (of_z w64 q) ≡ q
-  wide_q = to_z-of_z w64 q (record { sfits = omega (arith, quotient_small) })
-
-  multiple_fits : SFits w64 (y *ℤ q)
-  multiple_fits = product_fits y q (word_mag y hy) quotient_small
-
-  rest_fits : SFits w64 (x -ℤ (y *ℤ q))
-  rest_fits = difference_fits x (y *ℤ q) (word_mag x hx) (product_mag y q (word_mag y hy) quotient_small)
-
-  pub left_multiple : SFits w64 (to_z w64 (of_z w64 y) *ℤ to_z w64 (of_z w64 q))
-  left_multiple = rw (wide_y, wide_q) multiple_fits
-
-  multiple_is : to_z w64 (of_z w64 (to_z w64 (of_z w64 y) *ℤ to_z w64 (of_z w64 q))) ≡ y *ℤ q
-  multiple_is = rw (wide_y, wide_q) (to_z-of_z w64 (y *ℤ q) multiple_fits)
-
-  pub left_fits : SFits w64 (to_z w64 (of_z w64 x) -ℤ to_z w64 (of_z w64 (to_z w64 (of_z w64 y) *ℤ to_z w64 (of_z w64 q))))
-  left_fits = rw (wide_x, multiple_is) rest_fits
-
-  pub left_is : to_z w64 (of_z w64 (to_z w64 (of_z w64 x) -ℤ to_z w64 (of_z w64 (to_z w64 (of_z w64 y) *ℤ to_z w64 (of_z w64 q))))) ≡ remainder x y
-  left_is = rw (wide_x, multiple_is) (to_z-of_z w64 (x -ℤ (y *ℤ q)) rest_fits ∙ ap (λ z. x -ℤ (y *ℤ z)) is)
+pub did_divide : {U I O X : Type 0} (waiting : I → List ℤ) (means : O → Meaning) (narrow : ℤ → Option ℤ) (g : ℤ → ℤ → ℤ) (address : ℕ) (m : Memory U I O) {r : Result X Cause} {n : Memory U I O} → Did waiting means (operation address m.stack (world_of waiting means m) narrow (divided g)) address m r n → Did waiting means (pop_two m.stack (world_of waiting means m) (λ x y r. division address r (world_of waiting means m) y (narrow (g x y)))) address m r n
+did_divide waiting means narrow g address m d = record { effect = divides address m.stack (world_of waiting means m) narrow g ∙ d.effect; stays = d.stays; rests = d.rests }

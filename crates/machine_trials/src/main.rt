@@ -305,7 +305,7 @@ fn print_state<U: Arithmetic>(
     run: &Run<'_, U, WordInput, TextOutput>,
 ) -> io::Result<()> {
     let counter = run.counter();
-    let depth = (0..68).filter(|place| run.word(*place).is_some()).count();
+    let depth = (0..).map_while(|place| run.word(place)).count();
     let top = Number(run.word(0));
     print!(rt; "; counter {counter}; stack {depth} top {top}; cells")?;
     for cell in run.cells().iter().take(2) {

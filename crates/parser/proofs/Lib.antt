@@ -1,3 +1,4 @@
 pub mod Feeds
 pub mod Spelled
+pub mod Joined
 pub mod Whole

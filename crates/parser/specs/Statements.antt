@@ -1,18 +1,23 @@
 -- What each reader of statements does to what is expected. Every factor has 32 parentheses to spare.
 --   Less              a token is read
 --   end_of, closed    the token behind a list of statements, and what is expected after it
---   TakesCondition    a condition in its parentheses
+--   ReadsCondition    a condition in its parentheses
 --   TakesStatement    a statement with so many levels to spare below it
 --   TakesAssignment, TakesIf, TakesWhile, TakesBlock
 --                     one of each of these kinds behind its first token
 --   TakesCall         `scanf` or `printf` behind its word, with these tokens before the name
 --   TakesStatements   statements up to the token behind them
-use Rattle.std.specs.Prelude.{◌≡◌, ℕ, ◌<◌, List, [], ◌∷◌, length, Result, OnOk}
-use Rattle.grammar.specs.Kinds.{Token, Mark, Return, RightParen, RightBrace, Semicolon, Assign}
+use Rattle.std.specs.Prelude.{◌≡◌, ℕ, ◌<◌, ◌≤◌, List, [], ◌∷◌, length, Result, OnOk}
+use Rattle.syntax.specs.declared.tree.Condition.{Condition}
+use Rattle.syntax.specs.Trees as tree
+use Rattle.syntax.specs.TreeOf.{condition_of}
+use Rattle.grammar.specs.Grammar.{condition_onto, condition_parens}
+use Rattle.grammar.specs.Placed.{condition_at}
+use Rattle.grammar.specs.Kinds.{Name, Token, Mark, Return, RightParen, RightBrace, Semicolon, Assign}
 use Rattle.grammar.specs.Automaton.{at_semicolon, Frame, braces, whole, level, guard, Symbol, token, identifier, zero_number, expression, statement, tail}
 use Rattle.parser.specs.declared.reader.Reader.{Reader}
 use Rattle.parser.specs.declared.refusals.Refusal.{Refusal}
-use Rattle.parser.specs.Reads.{left, ahead, Reads}
+use Rattle.parser.specs.Reads.{left, ahead, Reads, Spells}
 use Rattle.parser.specs.Readers.{tokens}
 
 abbrev pub Less : {X : Type 0} → Reader → Result X Refusal → Reader → Type 0
@@ -30,8 +35,14 @@ closed (whole d) s = zero_number ∷ tokens (Semicolon ∷ (RightBrace ∷ [])) 
 abbrev pub Takes : {X : Type 0} → List Token → List Symbol → Result X Refusal → List Token → List Symbol → Type 0
 Takes us from r vs to = Reads us from r vs to (λ _. Unit {0})
 
-abbrev pub TakesCondition : {X : Type 0} → Reader → Result X Refusal → Reader → Type 0
-TakesCondition before r after = (source : List ℕ) (s : List Symbol) → Takes (ahead source before) (guard 32 s) r (ahead source after) s
+abbrev pub IsCondition : List Token → tree.Condition Name → List Token → Type 0
+IsCondition = Spells condition_onto condition_at (λ t. condition_parens t ≤ 32)
+
+abbrev pub ReadsCondition : Reader → Result Condition Refusal → Reader → Type 0
+ReadsCondition before r after =
+    (source : List ℕ) (s : List Symbol)
+    → Reads (ahead source before) (guard 32 s) r (ahead source after) s
+    (λ c. IsCondition (ahead source before) (condition_of source c) (ahead source after))
 
 abbrev pub TakesAssignment : {X : Type 0} → Reader → Result X Refusal → Reader → Type 0
 TakesAssignment before r after = (source : List ℕ) (s : List Symbol) → Takes (ahead source before) (token Assign ∷ (expression 32 at_semicolon ∷ s)) r (ahead source after) s

@@ -1,26 +1,32 @@
 // Readers of statements.
 ghost use Rattle.std.specs.Prelude.{◌≡◌, ℕ, List, [], ◌∷◌};
 ghost use Rattle.parser.specs.Readers.{Fewer};
-ghost use Rattle.parser.specs.Statements.{Less, TakesCondition, TakesAssignment, TakesCall, TakesStatement, TakesIf, TakesWhile, TakesBlock, TakesStatements};
+ghost use Rattle.parser.specs.Statements.{Less, ReadsCondition, TakesAssignment, TakesCall, TakesStatement, TakesIf, TakesWhile, TakesBlock, TakesStatements};
 
 use crate::reader::{Reader, deeper};
 use crate::refusals::Refusal;
 use syntax::token::{Kind, Mark};
+use syntax::tree::Condition;
 
 // How many parentheses a factor may stand in.
 const PARENTHESES: u32 = 32;
 
 impl Reader<'_> {
-    fn condition(&mut self) -> Result<(), Refusal>
-        ensures takes { TakesCondition self.old result self.new }
+    fn condition(&mut self) -> Result<Condition, Refusal>
+        ensures reads { ReadsCondition self.old result self.new }
         ensures fewer { Fewer self.old result self.new }
     {
         self.expect(Mark::LeftParen)?;
-        self.expression(PARENTHESES)?;
-        self.relation()?;
-        self.expression(PARENTHESES)?;
+        let left = self.expression(PARENTHESES)?;
+        let (relation, place) = self.relation()?;
+        let right = self.expression(PARENTHESES)?;
         self.expect(Mark::RightParen)?;
-        Ok(())
+        Ok(Condition {
+            left,
+            relation,
+            place,
+            right,
+        })
     }
 
     // An assignment behind its name.

@@ -45,17 +45,17 @@ statement-returns-in_ok-inner-in-Mark-LeftBrace-clause-takes t c = λ source es 
 
 pub if_statement-returns-in_err-condition-clause-takes : goal.if_statement-returns-in_err-condition-clause-takes
 if_statement-returns-in_err-condition-clause-takes t c = λ source es x s.
-    gone _ c.from_residual.result _ c.from_residual.ensures.1 refl (c.in_err-condition.ensures.takes source (statement 32 c.args.depth (c.args.depth ∷ es) x ∷ s))
+    gone _ c.from_residual.result _ c.from_residual.ensures.1 refl (c.in_err-condition.ensures.reads source (statement 32 c.args.depth (c.args.depth ∷ es) x ∷ s))
 
 pub if_statement-returns-in_err-statement-clause-takes : goal.if_statement-returns-in_err-statement-clause-takes
 if_statement-returns-in_err-statement-clause-takes t c = λ source es x s.
     gone _ c.from_residual-in_err-statement.result _ c.from_residual-in_err-statement.ensures.1
-    (c.in_ok-condition.ensures.takes source (statement 32 c.args.depth (c.args.depth ∷ es) x ∷ s)).0
+    (c.in_ok-condition.ensures.reads source (statement 32 c.args.depth (c.args.depth ∷ es) x ∷ s)).0
     (c.in_err-statement.ensures.takes source (c.args.depth ∷ es) x s)
 
 pub if_statement-returns-else-is_some-clause-takes : goal.if_statement-returns-else-is_some-clause-takes
 if_statement-returns-else-is_some-clause-takes t c = λ source es x s. (
-  (c.in_ok-condition.ensures.takes source (statement 32 c.args.depth (c.args.depth ∷ es) x ∷ s)).0 ∙ (c.in_ok-statement.ensures.takes source (c.args.depth ∷ es) x s).0
+  (c.in_ok-condition.ensures.reads source (statement 32 c.args.depth (c.args.depth ∷ es) x ∷ s)).0 ∙ (c.in_ok-statement.ensures.takes source (c.args.depth ∷ es) x s).0
       ∙ no_else _ _ (missed _ _ c.accept.result (sym c.if-is_some.ensures) (c.accept.ensures.read source)) c.args.depth es x s,
   tt,
 )
@@ -63,24 +63,24 @@ if_statement-returns-else-is_some-clause-takes t c = λ source es x s. (
 pub if_statement-returns-in_err-statement-2-clause-takes : goal.if_statement-returns-in_err-statement-2-clause-takes
 if_statement-returns-in_err-statement-2-clause-takes t c = λ source es x s.
     gone _ c.from_residual-in_err-statement-2.result _ c.from_residual-in_err-statement-2.ensures.1
-    ((c.in_ok-condition.ensures.takes source (statement 32 c.args.depth (c.args.depth ∷ es) x ∷ s)).0 ∙ (c.in_ok-statement.ensures.takes source (c.args.depth ∷ es) x s).0
+    ((c.in_ok-condition.ensures.reads source (statement 32 c.args.depth (c.args.depth ∷ es) x ∷ s)).0 ∙ (c.in_ok-statement.ensures.takes source (c.args.depth ∷ es) x s).0
     ∙ else_read (met _ _ c.accept.result (sym c.if-is_some.ensures) (c.accept.ensures.read source)).1 c.args.depth es x s)
     (c.in_err-statement-2.ensures.takes source es x s)
 
 pub if_statement-returns-in_ok-statement-2-clause-takes : goal.if_statement-returns-in_ok-statement-2-clause-takes
 if_statement-returns-in_ok-statement-2-clause-takes t c = λ source es x s. (
-  (c.in_ok-condition.ensures.takes source (statement 32 c.args.depth (c.args.depth ∷ es) x ∷ s)).0 ∙ (c.in_ok-statement.ensures.takes source (c.args.depth ∷ es) x s).0
+  (c.in_ok-condition.ensures.reads source (statement 32 c.args.depth (c.args.depth ∷ es) x ∷ s)).0 ∙ (c.in_ok-statement.ensures.takes source (c.args.depth ∷ es) x s).0
       ∙ else_read (met _ _ c.accept.result (sym c.if-is_some.ensures) (c.accept.ensures.read source)).1 c.args.depth es x s ∙ (c.in_ok-statement-2.ensures.takes source es x s).0,
   tt,
 )
 
 pub while_statement-returns-in_err-condition-clause-takes : goal.while_statement-returns-in_err-condition-clause-takes
 while_statement-returns-in_err-condition-clause-takes t c = λ source es x s.
-    gone _ c.from_residual.result _ c.from_residual.ensures.1 refl (c.in_err-condition.ensures.takes source (statement 32 c.args.depth es x ∷ s))
+    gone _ c.from_residual.result _ c.from_residual.ensures.1 refl (c.in_err-condition.ensures.reads source (statement 32 c.args.depth es x ∷ s))
 
 pub while_statement-returns-clause-takes : goal.while_statement-returns-clause-takes
 while_statement-returns-clause-takes t c = λ source es x s.
-    onward _ _ _ c.statement.result (c.in_ok-condition.ensures.takes source (statement 32 c.args.depth es x ∷ s)).0 (λ x h. tt) (c.statement.ensures.takes source es x s)
+    onward _ _ _ c.statement.result (c.in_ok-condition.ensures.reads source (statement 32 c.args.depth es x ∷ s)).0 (λ x h. tt) (c.statement.ensures.takes source es x s)
 
 pub block-returns-in_err-statement-clause-takes : goal.block-returns-in_err-statement-clause-takes
 block-returns-in_err-statement-clause-takes t c = λ source s. gone _ c.from_residual.result _ c.from_residual.ensures.1 refl (c.in_err-statement.ensures.takes source [] (braces c.args.depth) s)

@@ -13,6 +13,9 @@ use Rattle.parser.specs.Reads.{token_at, is_additive, Peeks, Spells, signed_by}
 pub respelled : {P A : Type 0} (onto : P → List Kind → List Kind) (at : P → List Token → A × List Token) (F : P → Type 0) {us vs ws : List Token} {a : A} → us ≡ vs → Spells onto at F vs a ws → Spells onto at F us a ws
 respelled onto at F {ws = ws} {a = a} e h = subst (λ l. Spells onto at F l a ws) (sym e) h
 
+pub retreed : {P A : Type 0} (onto : P → List Kind → List Kind) (at : P → List Token → A × List Token) (F : P → Type 0) {us vs : List Token} {a b : A} → a ≡ b → Spells onto at F us b vs → Spells onto at F us a vs
+retreed onto at F {us} {vs} e h = subst (λ t. Spells onto at F us t vs) (sym e) h
+
 module _ (p : ℕ) where
   abbrev IsFactor : List Token → Factor Name → List Token → Type 0
   IsFactor = Spells factor_onto factor_at (λ u. factor_parens u ≤ p)

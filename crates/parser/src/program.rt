@@ -45,7 +45,8 @@ impl Reader<'_> {
             Mark::LeftBrace,
         ])?;
         self.declaration()?;
-        self.statements(Mark::Return, LEVELS)?;
+        let mut statements = Vec::new(self.heap);
+        self.statements(&mut statements, Mark::Return, LEVELS)?;
         self.zero()?;
         self.expect_all(&[Mark::Semicolon, Mark::RightBrace])
     }

@@ -21,14 +21,14 @@ returns-in_err-statements c = record {
   takes = λ source.
       gone _ c.from_residual-in_err-statements.result _ c.from_residual-in_err-statements.ensures.1
       ((c.in_ok-expect_all.ensures.reads source (body 32 31 ∷ [])).0 ∙ (c.in_ok-declaration.ensures.takes source []).0)
-      (c.in_err-statements.ensures.takes source (whole 31) [] refl refl);
+      (c.in_err-statements.ensures.reads source (whole 31) [] refl refl);
 }
 
 pub returns-in_err-zero : goal.returns-in_err-zero
 returns-in_err-zero c = record {
   takes = λ source.
       gone _ c.from_residual-in_err-zero.result _ c.from_residual-in_err-zero.ensures.1
-      ((c.in_ok-expect_all.ensures.reads source (body 32 31 ∷ [])).0 ∙ (c.in_ok-declaration.ensures.takes source []).0 ∙ (c.in_ok-statements.ensures.takes source (whole 31) [] refl refl).0)
+      ((c.in_ok-expect_all.ensures.reads source (body 32 31 ∷ [])).0 ∙ (c.in_ok-declaration.ensures.takes source []).0 ∙ (c.in_ok-statements.ensures.reads source (whole 31) [] refl refl).0)
       (c.in_err-zero.ensures.reads source (tokens (Semicolon ∷ (RightBrace ∷ [])) []));
 }
 
@@ -36,7 +36,7 @@ pub returns : goal.returns
 returns c = record {
   takes = λ source.
       onward _ _ _ c.expect_all-2.result
-      ((c.in_ok-expect_all.ensures.reads source (body 32 31 ∷ [])).0 ∙ (c.in_ok-declaration.ensures.takes source []).0 ∙ (c.in_ok-statements.ensures.takes source (whole 31) [] refl refl).0
+      ((c.in_ok-expect_all.ensures.reads source (body 32 31 ∷ [])).0 ∙ (c.in_ok-declaration.ensures.takes source []).0 ∙ (c.in_ok-statements.ensures.reads source (whole 31) [] refl refl).0
       ∙ (c.in_ok-zero.ensures.reads source (tokens (Semicolon ∷ (RightBrace ∷ [])) [])).0)
       (λ x h. tt) (c.expect_all-2.ensures.reads source []);
 }

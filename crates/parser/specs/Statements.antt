@@ -48,10 +48,6 @@ abbrev pub closed : Frame → List Symbol → List Symbol
 closed (braces d) s = s
 closed (whole d) s = zero_number ∷ tokens (Semicolon ∷ (RightBrace ∷ [])) s
 
--- what the reader does to what is expected, with no word on a tree
-abbrev pub Takes : {X : Type 0} → List Token → List Symbol → Result X Refusal → List Token → List Symbol → Type 0
-Takes us from r vs to = Reads us from r vs to (λ _. Unit {0})
-
 abbrev pub IsCondition : List Token → tree.Condition Name → List Token → Type 0
 IsCondition = Spells condition_onto condition_at (λ t. condition_parens t ≤ 32)
 

@@ -1,7 +1,7 @@
 -- How the names of a declaration and the pieces of a program join to its tree.
-use Rattle.std.proofs.Common.{◌≡◌, ℕ, List, [], ◌∷◌, ◌++◌, sym, refl, ap, ◌∙◌, subst}
+use Rattle.std.proofs.Common.{◌≡◌, ℕ, List, [], ◌∷◌, ◌++◌, sym, refl, ap, ◌∙◌}
 use Rattle.syntax.specs.declared.tree.Name as coded
-use Rattle.syntax.specs.Trees.{Program, Statements}
+use Rattle.syntax.specs.Trees.{Statements}
 use Rattle.syntax.specs.TreeOf.{name_of, declared_of}
 use Rattle.grammar.specs.Kinds.{Name, Token, kinds, Mark, Head, Int, Main, LeftParen, RightParen, LeftBrace, RightBrace, Semicolon}
 use Rattle.grammar.specs.Kinds as kind

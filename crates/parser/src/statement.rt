@@ -149,7 +149,12 @@ impl Reader<'_> {
 
     // Statements up to this token, which is read too.
     #[cycle(statement_readers)]
-    pub fn statements(&mut self, statements: &mut Vec<Statement>, end: Mark, depth: u32) -> Result<(), Refusal>
+    pub fn statements(
+        &mut self,
+        statements: &mut Vec<Statement>,
+        end: Mark,
+        depth: u32,
+    ) -> Result<(), Refusal>
         ensures reads { ReadsStatements self.old statements.old.items end depth result self.new statements.new.items }
         ensures fewer { Fewer self.old result self.new }
     {

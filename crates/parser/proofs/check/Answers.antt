@@ -1,4 +1,3 @@
-use Rattle.syntax.specs.TreeOf.{tree_of}
 use Rattle.parser.proofs.Whole.{checked, a_program}
 use Rattle.parser.proofs.check.Goals as goal
 

@@ -157,7 +157,7 @@ statements-returns-in_err-statement-clause-reads t c = λ source x s e l.
     (c.in_err-statement.ensures.reads source [] x s)
 
 pub statements-loop-end-preserved : goal.statements-loop-end-preserved
-statements-loop-end-preserved t c = 
+statements-loop-end-preserved t c =
     let kept = c.loop-end.invariant in
     let one = c.in_ok-statement.statement ∷ [] in (
       λ source x s e l.

@@ -1,8 +1,7 @@
 -- How the trees of what is read join to the tree of a statement.
-use Rattle.std.proofs.Common.{◌≡◌, ℕ, suc, ◌≤◌, Bool, true, false, List, [], ◌∷◌, ◌++◌, sym, refl, ap, ◌∙◌, subst, true≢false, arith, take, drop}
+use Rattle.std.proofs.Common.{◌≡◌, ℕ, suc, ◌≤◌, Bool, true, false, List, [], ◌∷◌, ◌++◌, sym, refl, ap, ◌∙◌, subst, true≢false, arith}
 use Rattle.syntax.specs.Trees.{Expression, Condition, test, Statement, assign, scan, print, when, either, while, block, Statements, none, then}
-use Rattle.syntax.specs.TreeOf.{name_of, condition_of, statement_of, body_of, statements_of}
-use Rattle.syntax.specs.declared.tree.Name as coded-name
+use Rattle.syntax.specs.TreeOf.{condition_of, statement_of, body_of, statements_of}
 use Rattle.syntax.specs.declared.tree.Guarded.{Guarded}
 use Rattle.syntax.specs.declared.tree.Statement as coded
 use Rattle.grammar.specs.Kinds.{Name, Token, kinds, Mark, mark, Relation, LeftParen, RightParen, Format, Comma, Ampersand, Semicolon, same}
@@ -164,14 +163,9 @@ pub before_more : (source : List ℕ) (bs : List coded.Statement) (b : coded.Sta
 before_more source [] b r = refl
 before_more source (a ∷ bs) b r = ap (then (statement_of source a)) (before_more source bs b r)
 
--- a statement in front of another place than that of its level
+-- behind its first token, with one level fewer to spare
 pub relevelled : {us vs ws : List Token} {b : Statement Name} (d e : ℕ) → us ≡ vs → d ≡ suc e → IsStatement (suc e) vs b ws → IsStatement d us b ws
 relevelled {us} {vs} {ws} {b} d e q n h = subst (λ m. IsStatement m us b ws) (sym n) (subst (λ l. IsStatement (suc e) l b ws) (sym q) h)
-
--- as a name of the code with the place and the length of the one read
-pub named_read : (source : List ℕ) {us vs : List Token} {n m : coded-name.Name} → (n.place ≡ m.place) × (n.length ≡ m.length) → us ≡ token_at (kind.name (name_of source m)) m.place ∷ vs → us ≡ token_at (kind.name (name_of source n)) n.place ∷ vs
-named_read source {us} {vs} {n} {m} (place, length) e =
-    subst (λ q. us ≡ token_at (kind.name (take n.length (drop q source))) q ∷ vs) (sym place) (subst (λ k. us ≡ token_at (kind.name (take k (drop m.place source))) m.place ∷ vs) (sym length) e)
 
 -- ── a condition and the statement behind it ──
 

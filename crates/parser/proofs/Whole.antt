@@ -14,16 +14,16 @@ use Rattle.parser.specs.Reads.{Refuses}
 use Rattle.parser.specs.Programs.{IsProgram}
 use Rattle.parser.specs.Promise.{Refused, Parsed}
 
-refused : (ts : List Token) (e : Refusal) → Refuses (judge ts (start 31 32)) e → Refused ts e
+pub refused : (ts : List Token) (e : Refusal) → Refuses (judge ts (start 31 32)) e → Refused ts e
 refused ts TooSoon h = (judges 31 32 ts).1.0 h
 refused ts (Grammar p) h = ((judges 31 32 ts).2 4 p).0 h
 refused ts (Depth p) h = ((judges 31 32 ts).2 5 p).0 h
 refused ts NoMemory h = tt
 
 -- an exit without a program
-pub answered : {X : Type 0} (P : X → Type 0) (ts : List Token) (r : Result X Refusal) (e : Refusal) → IsErrAnd r (λ y. y ≡ e) → Refuses (judge ts (start 31 32)) e → MatchResult r P (Refused ts)
-answered P ts (Ok x) e h f = absurd h
-answered P ts (Err y) e h f = subst (Refused ts) (sym h) (refused ts e f)
+pub exited : {X : Type 0} (P : X → Type 0) (ts : List Token) (r : Result X Refusal) (e : Refusal) → IsErrAnd r (λ y. y ≡ e) → Refused ts e → MatchResult r P (Refused ts)
+exited P ts (Ok x) e h f = absurd h
+exited P ts (Err y) e h f = subst (Refused ts) (sym h) f
 
 none_left : (source : List ℕ) (vs : List coded.Token) → None ≡ slice_get vs 0 → tokens_of source vs ≡ []
 none_left source [] e = refl
@@ -35,11 +35,6 @@ all_read source us vs p h e = record { parse = h.parse; within = h.within; spell
 pub more_left : (source : List ℕ) (us vs : List coded.Token) (t : coded.Token) → judge (tokens_of source us) (start 31 32) ≡ judge (tokens_of source vs) [] → Some t ≡ slice_get vs 0 → Refused (tokens_of source us) (Grammar t.place)
 more_left source us [] t h e = grind arith
 more_left source us (v ∷ vs) t h e = ((judges 31 32 (tokens_of source us)).2 4 t.place).0 (h ∙ ap (λ p. wrong 4 p) (grind arith))
-
--- what a parse says without its tree
-pub checked : {X : Type 0} (P : X → Type 0) (ts : List Token) (r : Result X Refusal) (e : Refusal) → IsErrAnd r (λ y. y ≡ e) → Refused ts e → MatchResult r P (Refused ts)
-checked P ts (Ok x) e h f = absurd h
-checked P ts (Err y) e h f = subst (Refused ts) (sym h) f
 
 pub a_program : (ts : List Token) (p : tree.Program Name) → Parsed ts p → Program 32 32 (kinds ts)
 a_program ts p h = (h.parse, h.within, h.spelled)

@@ -2,6 +2,7 @@
 --   AreNames           tokens are those of a declaration behind its first name, and these are the names
 --   IsDeclaration      tokens are those of a declaration, if any, and these are the names
 --   IsProgram          tokens, if no more are left, are those of a parse tree within both depths, and this is its program
+--   AreMore            tokens are those of more names, put behind those before them
 --   ReadsNames         the names of a declaration behind its first, up to the semicolon, put behind those that were read before
 --   ReadsDeclaration   a declaration, if there is one
 --   ReadsProgram       a whole program
@@ -31,7 +32,6 @@ pub record IsProgram (us : List Token) (p : tree.Program Name) (vs : List Token)
   pub spelled : vs ≡ [] → yield parse ≡ kinds us
   pub placed : p ≡ program_at parse us
 
--- more names, behind those before them
 pub record AreMore (source : List ℕ) (us : List Token) (read all : List coded-name.Name) (vs : List Token) : Type 0 where
   pub more : List coded-name.Name
   pub all_are : all ≡ read ++ more

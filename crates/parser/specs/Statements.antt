@@ -8,6 +8,8 @@
 --   IsStatement, AreStatements
 --                     tokens are those of a statement, or of statements, with so many levels to spare below
 --   IsGuarded         tokens are those of a condition and the statement behind it
+--   IsCall            tokens are these, a name and the end of a call
+--   AreMore           tokens are those of more statements and the token behind them
 --   ReadsCondition    a condition in its parentheses
 --   ReadsAssigned     the value of an assignment behind its name, with the semicolon
 --   ReadsCall         `scanf` or `printf` behind its word, with these tokens before the name
@@ -84,7 +86,6 @@ ReadsAssigned before r after =
     → Reads (ahead source before) (token Assign ∷ (expression 32 at_semicolon ∷ s)) r (ahead source after) s
     (λ e. (d p : ℕ) (i : Name) → IsStatement d (token_at (kind.name i) p ∷ ahead source before) (tree.assign i p (expression_of source e)) (ahead source after))
 
--- these tokens, a name and the end of a call
 pub record IsCall (source : List ℕ) (opening : List Mark) (us : List Token) (n : coded-name.Name) (vs : List Token) : Type 0 where
   pub front : List Token
   pub behind : List Token
@@ -128,7 +129,7 @@ ReadsBlock before depth r after =
     → Reads (ahead source before) (statement 32 depth [] (braces depth) ∷ s) r (ahead source after) s
     (λ ss. (p : ℕ) → IsStatement (suc depth) (token_at kind.left_brace p ∷ ahead source before) (tree.block (statements_of source (vec_items ss))) (ahead source after))
 
--- more statements, behind those before them
+-- put behind those before them
 pub record AreMore (source : List ℕ) (end : Mark) (d : ℕ) (us : List Token) (read all : List Statement) (vs : List Token) : Type 0 where
   pub more : List Statement
   pub all_are : all ≡ read ++ more

@@ -1,4 +1,4 @@
-use Rattle.std.proofs.Common.{rules, [], ◌∷◌, ◌++◌, sym, refl, ap, ◌∙◌, append_assoc, vec_items, arith}
+use Rattle.std.proofs.Common.{rules, [], ◌∷◌, ◌++◌, sym, refl, ap, ◌∙◌, arith}
 use Rattle.syntax.specs.Trees.{none, then}
 use Rattle.syntax.specs.TreeOf.{statement_of, statements_of}
 use Rattle.syntax.proofs.Blocks.{block_of}
@@ -8,8 +8,8 @@ use Rattle.grammar.specs.Placed.{statement_at, statements_at}
 use Rattle.grammar.specs.Automaton.{at_semicolon, braces, token, identifier, expression, statement, tail, guard}
 use Rattle.parser.specs.Readers.{tokens}
 use Rattle.parser.proofs.Feeds.{gone, onward, read_as, read_mark, peeked_fewer, missed, met, taken, inner_read, else_read, no_else, end_read, no_end}
-use Rattle.parser.proofs.Spelled.{respelled, retreed}
-use Rattle.parser.proofs.Joined.{named_read, scan_spelled, print_spelled, when_guarded, either_guarded, while_guarded, block_spelled, none_spelled, then_spelled, before_none, before_more, relevelled}
+use Rattle.parser.proofs.Spelled.{respelled, retreed, named_read, behind_one, one_behind}
+use Rattle.parser.proofs.Joined.{scan_spelled, print_spelled, when_guarded, either_guarded, while_guarded, block_spelled, none_spelled, then_spelled, before_none, before_more, relevelled}
 use Rattle.parser.proofs.reader.Reader.+statement_readers.Goals as goal
 
 pub statement-returns-in_err-value-in-Name-clause-reads : goal.statement-returns-in_err-value-in-Name-clause-reads
@@ -146,8 +146,7 @@ pub block-returns-clause-reads : goal.block-returns-clause-reads
 block-returns-clause-reads t c = λ source s.
     let first = c.in_ok-first.ensures.reads source [] (braces c.args.depth) s in
     let rest = c.in_ok-statements.ensures.reads source (braces c.args.depth) s refl refl in
-    let one = c.in_ok-first.first ∷ [] in
-    let all = rest.1.all_are ∙ ap (λ l. l ++ rest.1.more) (c.in_ok-push.ensures.items ∙ ap (λ l. l ++ one) c.new-statements.ensures.items) in
+    let all = behind_one c.in_ok-first.first rest.1.all_are c.in_ok-push.ensures.items c.new-statements.ensures.items in
     (first.0 ∙ rest.0, λ p. block_spelled c.args.depth p (ap (statements_of source) all) first.1 rest.1.spelled)
 
 pub statements-returns-in_err-statement-clause-reads : goal.statements-returns-in_err-statement-clause-reads
@@ -159,15 +158,15 @@ statements-returns-in_err-statement-clause-reads t c = λ source x s e l.
 pub statements-loop-end-preserved : goal.statements-loop-end-preserved
 statements-loop-end-preserved t c =
     let kept = c.loop-end.invariant in
-    let one = c.in_ok-statement.statement ∷ [] in (
+    let read = c.in_ok-statement.statement in (
       λ source x s e l.
           kept.0 source x s e l ∙ no_end x _ _ e l (missed _ _ c.accept.result c.loop-end-test.ensures (c.accept.ensures.read source)) s ∙ (c.in_ok-statement.ensures.reads source [] x s).0,
       omega (arith, kept.1, peeked_fewer _ _ c.accept.result c.accept.ensures.fewer, c.in_ok-statement.ensures.less),
-      kept.2 ++ one,
-      c.in_ok-push.ensures.items ∙ ap (λ l. l ++ one) kept.3 ∙ append_assoc (vec_items c.args.statements.now) kept.2 one,
+      kept.2 ++ (read ∷ []),
+      one_behind _ kept.2 read c.in_ok-push.ensures.items kept.3,
       λ source ss vs h.
-          retreed statements_onto statements_at _ (before_more source kept.2 c.in_ok-statement.statement ss)
-          (kept.4 source (then (statement_of source c.in_ok-statement.statement) ss) vs
+          retreed statements_onto statements_at _ (before_more source kept.2 read ss)
+          (kept.4 source (then (statement_of source read) ss) vs
           (respelled statements_onto statements_at _ (sym (missed _ _ c.accept.result c.loop-end-test.ensures (c.accept.ensures.read source)).0)
           (then_spelled c.args.depth (c.in_ok-statement.ensures.reads source [] (braces 0) []).1 h))),
     )

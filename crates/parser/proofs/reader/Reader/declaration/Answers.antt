@@ -1,10 +1,10 @@
-use Rattle.std.proofs.Common.{[], ◌∷◌, ◌++◌, refl, ap, ◌∙◌}
+use Rattle.std.proofs.Common.{[], ◌∷◌, refl, ap, ◌∙◌}
 use Rattle.syntax.specs.TreeOf.{declared_of}
 use Rattle.grammar.specs.Grammar.{declaration_onto}
 use Rattle.grammar.specs.Placed.{declaration_at}
 use Rattle.grammar.specs.Automaton.{whole, names, body, identifier, tail}
 use Rattle.parser.proofs.Feeds.{gone, missed, met, taken, no_int}
-use Rattle.parser.proofs.Spelled.{retreed}
+use Rattle.parser.proofs.Spelled.{retreed, behind_one}
 use Rattle.parser.proofs.Declared.{undeclared, variables_spelled}
 use Rattle.parser.proofs.reader.Reader.declaration.Goals as goal
 
@@ -33,8 +33,7 @@ returns-clause-reads c = λ source s.
     let int = met _ _ c.accept.result c.if-is_none.ensures (c.accept.ensures.read source) in
     let first = c.in_ok-first.ensures.reads source after in
     let rest = c.in_ok-names.ensures.reads source (tail 32 [] (whole 31) ∷ s) in
-    let one = c.in_ok-first.first ∷ [] in
-    let all = rest.1.all_are ∙ ap (λ l. l ++ rest.1.more) (c.in_ok-push.ensures.items ∙ ap (λ l. l ++ one) c.new-names.ensures.items) in (
+    let all = behind_one c.in_ok-first.first rest.1.all_are c.in_ok-push.ensures.items c.new-names.ensures.items in (
       taken int.1 (body 32 31 ∷ s) (identifier ∷ after) refl ∙ first.0 ∙ rest.0,
       retreed declaration_onto declaration_at _ (ap (declared_of source) all) (variables_spelled int.1 first.1 rest.1.spelled),
     )

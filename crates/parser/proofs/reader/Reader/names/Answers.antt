@@ -1,24 +1,23 @@
-use Rattle.std.proofs.Common.{[], ◌∷◌, ◌++◌, vec_items, sym, refl, ap, ◌∙◌, append-nil, append_assoc, arith}
+use Rattle.std.proofs.Common.{[], ◌∷◌, ◌++◌, sym, refl, ◌∙◌, append-nil, arith}
 use Rattle.syntax.specs.TreeOf.{name_of}
 use Rattle.grammar.specs.Grammar.{names_onto}
 use Rattle.grammar.specs.Placed.{names_at}
 use Rattle.grammar.specs.Automaton.{names, identifier}
 use Rattle.parser.proofs.Feeds.{gone, peeked_fewer, missed, met, taken, no_comma}
-use Rattle.parser.proofs.Spelled.{respelled, retreed}
+use Rattle.parser.proofs.Spelled.{respelled, retreed, one_behind}
 use Rattle.parser.proofs.Declared.{names_end, also_spelled, declared_more}
 use Rattle.parser.proofs.reader.Reader.names.Goals as goal
 
 pub loop-self-preserved : goal.loop-self-preserved
 loop-self-preserved c =
     let kept = c.loop-self.invariant in
-    let name = c.in_ok-name.name in
-    let one = name ∷ [] in (
+    let name = c.in_ok-name.name in (
       λ source s.
           kept.0 source s ∙ taken (met _ _ c.accept.result (sym c.loop-self-test.ensures) (c.accept.ensures.read source)).1 (names ∷ s) (identifier ∷ (names ∷ s)) refl
           ∙ (c.in_ok-name.ensures.reads source (names ∷ s)).0,
       omega (arith, kept.1, peeked_fewer _ _ c.accept.result c.accept.ensures.fewer, c.in_ok-name.ensures.fewer),
-      kept.2 ++ one,
-      c.in_ok-push.ensures.items ∙ ap (λ l. l ++ one) kept.3 ∙ append_assoc (vec_items c.args.names.now) kept.2 one,
+      kept.2 ++ (name ∷ []),
+      one_behind _ kept.2 name c.in_ok-push.ensures.items kept.3,
       λ source ns vs h.
           retreed names_onto names_at _ (declared_more source kept.2 name ns)
           (kept.4 source ((name_of source name, name.place) ∷ ns) vs

@@ -1,3 +1,5 @@
 pub mod Feeds
 pub mod Spelled
+pub mod Joined
+pub mod Declared
 pub mod Whole

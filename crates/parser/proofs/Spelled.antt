@@ -1,5 +1,5 @@
 -- How the trees of what is read join to the tree of an expression.
-use Rattle.std.proofs.Common.{◌≡◌, ℕ, suc, ◌≤◌, List, ◌∷◌, Some, None, Option, sym, ap, ◌∙◌, subst, arith, take, drop}
+use Rattle.std.proofs.Common.{◌≡◌, ℕ, suc, ◌≤◌, List, [], ◌∷◌, ◌++◌, Some, None, Option, sym, ap, ◌∙◌, subst, append_assoc, arith, take, drop}
 use Rattle.syntax.specs.Trees.{Expression, first, minus, more, Term, one, times, Factor, name, number, paren}
 use Rattle.syntax.specs.TreeOf.{name_of}
 use Rattle.syntax.specs.declared.tree.Name as coded
@@ -12,6 +12,21 @@ use Rattle.parser.specs.Reads.{token_at, is_additive, Peeks, Spells, signed_by}
 
 pub respelled : {P A : Type 0} (onto : P → List Kind → List Kind) (at : P → List Token → A × List Token) (F : P → Type 0) {us vs ws : List Token} {a : A} → us ≡ vs → Spells onto at F vs a ws → Spells onto at F us a ws
 respelled onto at F {ws = ws} {a = a} e h = subst (λ l. Spells onto at F l a ws) (sym e) h
+
+pub retreed : {P A : Type 0} (onto : P → List Kind → List Kind) (at : P → List Token → A × List Token) (F : P → Type 0) {us vs : List Token} {a b : A} → a ≡ b → Spells onto at F us b vs → Spells onto at F us a vs
+retreed onto at F {us} {vs} e h = subst (λ t. Spells onto at F us t vs) (sym e) h
+
+-- as a name of the code with the place and the length of the one read
+pub named_read : (source : List ℕ) {us vs : List Token} {n m : coded.Name} → (n.place ≡ m.place) × (n.length ≡ m.length) → us ≡ token_at (kind.name (name_of source m)) m.place ∷ vs → us ≡ token_at (kind.name (name_of source n)) n.place ∷ vs
+named_read source {us} {vs} {n} {m} (place, length) e =
+    subst (λ q. us ≡ token_at (kind.name (take n.length (drop q source))) q ∷ vs) (sym place) (subst (λ k. us ≡ token_at (kind.name (take k (drop m.place source))) m.place ∷ vs) (sym length) e)
+
+-- what was put behind nothing, and what behind others
+pub behind_one : {X : Type 0} {all read start rest : List X} (x : X) → all ≡ read ++ rest → read ≡ start ++ (x ∷ []) → start ≡ [] → all ≡ x ∷ rest
+behind_one {rest = rest} x a b c = a ∙ ap (λ l. l ++ rest) (b ∙ ap (λ l. l ++ (x ∷ [])) c)
+
+pub one_behind : {X : Type 0} {all read : List X} (start rest : List X) (x : X) → all ≡ read ++ (x ∷ []) → read ≡ start ++ rest → all ≡ start ++ (rest ++ (x ∷ []))
+one_behind start rest x a b = a ∙ ap (λ l. l ++ (x ∷ [])) b ∙ append_assoc start rest (x ∷ [])
 
 module _ (p : ℕ) where
   abbrev IsFactor : List Token → Factor Name → List Token → Type 0
@@ -39,10 +54,8 @@ module _ (p : ℕ) where
   pub variable_spelled : {us vs : List Token} {i : Name} {n : ℕ} → us ≡ token_at (kind.name i) n ∷ vs → IsFactor us (name i n) vs
   variable_spelled {i = i} e = record { tree = parse.variable i; tokens = ap kinds e; placed = ap (factor_at (parse.variable i)) e; fits = omega arith }
 
-  -- as a name of the code with the place and the length of the one read
   pub name_spelled : (source : List ℕ) {us vs : List Token} {n m : coded.Name} → (n.place ≡ m.place) × (n.length ≡ m.length) → us ≡ token_at (kind.name (name_of source m)) m.place ∷ vs → IsFactor us (name (name_of source n) n.place) vs
-  name_spelled source {us} {vs} {n} {m} (place, length) e =
-      subst (λ q. IsFactor us (name (take n.length (drop q source)) q) vs) (sym place) (subst (λ k. IsFactor us (name (take k (drop m.place source)) m.place) vs) (sym length) (variable_spelled e))
+  name_spelled source same e = variable_spelled (named_read source same e)
 
   pub literal_spelled : {us vs : List Token} {v n : ℕ} → us ≡ token_at (kind.number v) n ∷ vs → IsFactor us (number v n) vs
   literal_spelled {v = v} e = record { tree = parse.literal v; tokens = ap kinds e; placed = ap (factor_at (parse.literal v)) e; fits = omega arith }

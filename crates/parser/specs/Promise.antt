@@ -2,11 +2,17 @@
 --   Refused     the case of a no, with its number and place; or there is no memory
 --   number_of   a refusal's number
 --   Answers     yes, or that no, whatever source the names stand in
-use Rattle.std.specs.Prelude.{ℕ, List, Result, MatchResult}
+--   Parsed      tokens are those of a parse tree within both depths, and this is its program
+--   Parses      yes, with the program; or that no, whatever source the names stand in
+use Rattle.std.specs.Prelude.{◌≡◌, ℕ, List, Result, MatchResult}
 use Rattle.syntax.specs.declared.token.Token as coded
+use Rattle.syntax.specs.declared.tree.Program as coded-tree
 use Rattle.syntax.specs.Tokens.{tokens_of}
-use Rattle.grammar.specs.Kinds.{Token, kinds}
-use Rattle.grammar.specs.Grammar.{Program, Begins, BrokenAt}
+use Rattle.syntax.specs.Trees as tree
+use Rattle.syntax.specs.TreeOf.{tree_of}
+use Rattle.grammar.specs.Kinds.{Name, Token, kinds}
+use Rattle.grammar.specs.Grammar.{ProgramTree, yield, Within, Program, Begins, BrokenAt}
+use Rattle.grammar.specs.Placed.{program_at}
 use Rattle.parser.specs.declared.refusals.Refusal.{Refusal}
 use Rattle.parser.specs.declared.refusals.Refusal.TheVariants.{TooSoon, Grammar, Depth, NoMemory}
 
@@ -24,3 +30,12 @@ Refused ts NoMemory = Unit {0}
 
 abbrev pub Answers : {X : Type 0} → List coded.Token → Result X Refusal → Type 0
 Answers tokens r = (source : List ℕ) → MatchResult r (λ _. Program 32 32 (kinds (tokens_of source tokens))) (Refused (tokens_of source tokens))
+
+pub record Parsed (ts : List Token) (p : tree.Program Name) : Type 0 where
+  pub parse : ProgramTree
+  pub within : Within 32 32 parse
+  pub spelled : yield parse ≡ kinds ts
+  pub placed : p ≡ program_at parse ts
+
+abbrev pub Parses : List coded.Token → Result coded-tree.Program Refusal → Type 0
+Parses tokens r = (source : List ℕ) → MatchResult r (λ p. Parsed (tokens_of source tokens) (tree_of source p)) (Refused (tokens_of source tokens))

@@ -1,26 +1,39 @@
-use Rattle.std.proofs.Common.{[], ◌∷◌, sym, refl, ◌∙◌}
+use Rattle.std.proofs.Common.{[], ◌∷◌, refl, ap, ◌∙◌}
+use Rattle.syntax.specs.TreeOf.{declared_of}
+use Rattle.grammar.specs.Grammar.{declaration_onto}
+use Rattle.grammar.specs.Placed.{declaration_at}
 use Rattle.grammar.specs.Automaton.{whole, names, body, identifier, tail}
 use Rattle.parser.proofs.Feeds.{gone, missed, met, taken, no_int}
+use Rattle.parser.proofs.Spelled.{retreed, behind_one}
+use Rattle.parser.proofs.Declared.{undeclared, variables_spelled}
 use Rattle.parser.proofs.reader.Reader.declaration.Goals as goal
 
-pub returns-else-is_some-clause-takes : goal.returns-else-is_some-clause-takes
-returns-else-is_some-clause-takes c = λ source s. (no_int _ _ (missed _ _ c.accept.result (sym c.if-is_some.ensures) (c.accept.ensures.read source)) s, tt)
+pub returns-then-is_none-clause-reads : goal.returns-then-is_none-clause-reads
+returns-then-is_none-clause-reads c = λ source s.
+    let none = missed _ _ c.accept.result c.if-is_none.ensures (c.accept.ensures.read source) in
+    (no_int _ _ none s, retreed declaration_onto declaration_at _ (ap (declared_of source) c.new-names.ensures.items) (undeclared none.0))
 
-pub returns-in_err-name-clause-takes : goal.returns-in_err-name-clause-takes
-returns-in_err-name-clause-takes c = λ source s.
+pub returns-in_err-first-clause-reads : goal.returns-in_err-first-clause-reads
+returns-in_err-first-clause-reads c = λ source s.
     let after = names ∷ (tail 32 [] (whole 31) ∷ s) in
     gone _ c.from_residual.result _ c.from_residual.ensures.1
-    (taken (met _ _ c.accept.result (sym c.if-is_some.ensures) (c.accept.ensures.read source)).1 (body 32 31 ∷ s) (identifier ∷ after) refl)
-    (c.in_err-name.ensures.reads source after)
+    (taken (met _ _ c.accept.result c.if-is_none.ensures (c.accept.ensures.read source)).1 (body 32 31 ∷ s) (identifier ∷ after) refl)
+    (c.in_err-first.ensures.reads source after)
 
-pub returns-in_err-names-clause-takes : goal.returns-in_err-names-clause-takes
-returns-in_err-names-clause-takes c = λ source s.
+pub returns-in_err-names-clause-reads : goal.returns-in_err-names-clause-reads
+returns-in_err-names-clause-reads c = λ source s.
     let after = names ∷ (tail 32 [] (whole 31) ∷ s) in
     gone _ c.from_residual-in_err-names.result _ c.from_residual-in_err-names.ensures.1
-    (taken (met _ _ c.accept.result (sym c.if-is_some.ensures) (c.accept.ensures.read source)).1 (body 32 31 ∷ s) (identifier ∷ after) refl ∙ (c.in_ok-name.ensures.reads source after).0)
-    (c.in_err-names.ensures.takes source (tail 32 [] (whole 31) ∷ s))
+    (taken (met _ _ c.accept.result c.if-is_none.ensures (c.accept.ensures.read source)).1 (body 32 31 ∷ s) (identifier ∷ after) refl ∙ (c.in_ok-first.ensures.reads source after).0)
+    (c.in_err-names.ensures.reads source (tail 32 [] (whole 31) ∷ s))
 
-pub returns-in_ok-names-clause-takes : goal.returns-in_ok-names-clause-takes
-returns-in_ok-names-clause-takes c = λ source s.
+pub returns-clause-reads : goal.returns-clause-reads
+returns-clause-reads c = λ source s.
     let after = names ∷ (tail 32 [] (whole 31) ∷ s) in
-    (taken (met _ _ c.accept.result (sym c.if-is_some.ensures) (c.accept.ensures.read source)).1 (body 32 31 ∷ s) (identifier ∷ after) refl ∙ (c.in_ok-name.ensures.reads source after).0 ∙ (c.in_ok-names.ensures.takes source (tail 32 [] (whole 31) ∷ s)).0, tt)
+    let int = met _ _ c.accept.result c.if-is_none.ensures (c.accept.ensures.read source) in
+    let first = c.in_ok-first.ensures.reads source after in
+    let rest = c.in_ok-names.ensures.reads source (tail 32 [] (whole 31) ∷ s) in
+    let all = behind_one c.in_ok-first.first rest.1.all_are c.in_ok-push.ensures.items c.new-names.ensures.items in (
+      taken int.1 (body 32 31 ∷ s) (identifier ∷ after) refl ∙ first.0 ∙ rest.0,
+      retreed declaration_onto declaration_at _ (ap (declared_of source) all) (variables_spelled int.1 first.1 rest.1.spelled),
+    )

@@ -32,3 +32,6 @@ pub fn check(heap: Global, tokens: &[Token]) -> Result<(), Refusal>
     parse(heap, tokens)?;
     Ok(())
 }
+
+#[cfg(test)]
+mod tests;

@@ -2,7 +2,6 @@
 use crate::parse;
 use crate::refusals::Refusal;
 use std::alloc::{AllocError, Global};
-use std::process::Abort;
 use std::test::Fail;
 use syntax::token::{Kind, Mark, Relation, Token};
 use syntax::tree::Statement;
@@ -18,19 +17,6 @@ fn tokens(heap: Global, kinds: &[Kind]) -> Result<Vec<Token>, AllocError> {
         })?;
     }
     Ok(tokens)
-}
-
-// What a statement is, and where it or its name stands; where its `else` stands, if it has one. A block has no place.
-fn told(statement: &Statement) -> (u32, u32) {
-    match statement {
-        Statement::Assign(name, _) => (1, name.place),
-        Statement::Scan(name) => (2, name.place),
-        Statement::Print(name) => (3, name.place),
-        Statement::If(guarded) => (4, guarded.place),
-        Statement::IfElse { else_place, .. } => (5, *else_place),
-        Statement::While(guarded) => (6, guarded.place),
-        Statement::Block(_) => (7, 0),
-    }
 }
 
 #[test]
@@ -67,15 +53,11 @@ fn an_else(rt: HostRuntime) -> Result<(), Fail> {
         Kind::Mark(Mark::RightBrace),
     ];
     let all = tokens(heap, &kinds)?;
-    let read = parse(heap, &all);
-    let found = match &read {
-        Ok(program) => match program.statements.first() {
-            Some(statement) => told(statement),
-            None => (0, 0),
-        },
-        Err(_) => (8, 0),
+    let Ok(program) = parse(heap, &all) else {
+        return Err(Fail::new("refused"));
     };
-    assert_eq!(rt; found, (5, 19));
+    let first = program.statements.first();
+    assert!(rt; matches!(first, Some(Statement::IfElse { else_place: 19, .. })));
     let short = tokens(heap, &kinds[..27])?;
     assert!(rt; parse(heap, &short).err() == Some(Refusal::TooSoon));
     Ok(())

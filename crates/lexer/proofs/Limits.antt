@@ -133,14 +133,3 @@ module _ (s : List ℕ) (ts : List coded.Token) where
 
   pub large_refused : (p : ℕ) → length s ≤ 16384 → limited_all (lexing s) ≡ good (lexemes_of s ts) → option_map (λ t. t.place) (find coded_too_large ts) ≡ Some p → answer s ≡ refused 3 p
   large_refused p short e large = short_answer s short ∙ read_large (lexing s) p e (sym (found_lexed e) ∙ large)
-
--- a longer source
-pub long_answer : (s : List ℕ) → 16384 < length s → answer s ≡ refused 1 16384
-long_answer s long = ap (λ t. cond t (refused 1 16384) (read (lexing s))) (lt-ltb 16384 (length s) long)
-
--- what the first pass refuses is refused
-pub stray_refused : (s : List ℕ) (e : Refusal) → length s ≤ 16384 → Strays (lexing s) e → Refuses s e
-stray_refused s refusal.TooLong short h = absurd h
-stray_refused s (refusal.NoToken p) short h = short_answer s short ∙ ap read h
-stray_refused s (refusal.TooLarge p) short h = absurd h
-stray_refused s refusal.NoMemory short h = short

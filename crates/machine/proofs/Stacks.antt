@@ -73,9 +73,6 @@ two xs d x y h fx fy ex ey =
 pub tops_one : (xs : List ℤ) (d : ℕ) → 1 ≤ d → tops xs d ≡ get_or xs (d - 1) (pos 0) ∷ tops xs (d - 1)
 tops_one xs d h = let e : d ≡ suc (d - 1) = omega arith in ap (tops xs) e
 
-pub top_word : (xs : List ℤ) (d : ℕ) (v : ℤ) → 1 ≤ d → v ≡ get_or xs (d - 1) (pos 0) → tops xs d ≡ v ∷ tops xs (d - 1)
-top_word xs d v h k = tops_one xs d h ∙ ap (λ u. u ∷ tops xs (d - 1)) (sym k)
-
 -- the test for one word more
 pub space : (xs : List ℤ) (d : ℕ) → d < 68 → ltb (length (tops xs d)) 68 ≡ true
 space xs d h = ap (λ n. ltb n 68) (length_tops xs d) ∙ grind (arith, nat_tests)

@@ -1,19 +1,16 @@
 -- Names used one after another.
-use Rattle.std.proofs.Common.{List, ◌+◌, length, get_or, drop, ◌≡◌, ℕ, zero, suc, ◌-◌, ◌<◌, Bool, true, false, cond, [], ◌∷◌, ◌++◌, is_some, IsErrAnd, Some, None, Ok, Err, Option, Result, sym, refl, ap, ◌∙◌, subst, arith}
-use Rattle.std.proofs.lemmas.Result.{err_from_is_err_and}
+use Rattle.std.proofs.Common.{List, ◌+◌, length, get_or, drop, ◌≡◌, ℕ, zero, suc, ◌-◌, ◌<◌, Bool, true, false, cond, [], ◌∷◌, ◌++◌, is_some, Some, None, Ok, Err, Option, Result, sym, refl, ap, ◌∙◌, subst, arith}
 use Rattle.std.proofs.lemmas.Bool.{false≢true, true≢false}
 use Rattle.std.proofs.lemmas.List.{at_drop_more}
 use Rattle.syntax.specs.Tokens.{Name}
 use Rattle.syntax.specs.TreeOf.{statement_of, statements_of}
 use Rattle.syntax.specs.declared.tree.Statement.{Statement}
 use Rattle.names.specs.declared.refusals.Refusal.{Refusal}
-use Rattle.names.specs.declared.refusals.Refusal.TheVariants as refusal
 use Rattle.names.specs.Cells.{Entries, name_at, cell_of, Undeclared, Looked}
 use Rattle.syntax.specs.Trees.{Program}
-use Rattle.names.specs.Declares as refuses
 use Rattle.names.specs.Declares.{Declaration}
 use Rattle.names.specs.Uses.{uses_in_statement, uses_in_statements, Declared, AllDeclared, FirstUndeclared, first_undeclared, outcome}
-use Rattle.names.specs.Names.{Answers, Refuses}
+use Rattle.names.specs.Names.{Answers}
 use Rattle.names.proofs.Looks.{looked}
 
 abbrev either : Option ℕ → Option ℕ → Option ℕ
@@ -91,13 +88,3 @@ module _ (p : Program Name) (r : Result (Unit {0}) Refusal) where
       at : (o : Option ℕ) → FirstIf p.declared (uses_in_statements p.statements) o → Answers p (outcome o)
       at None h = record { declaration = d; used = h }
       at (Some q) h = (d, h)
-
-  pub not_declared : (e : Refusal) → refuses.Refuses p.declared e → IsErrAnd r (λ f. f ≡ e) → Answers p r
-  not_declared e h by =
-      let q = err_from_is_err_and r by in
-      let P : Result (Unit {0}) Refusal → Type 0 = λ q. Answers p q in subst P (sym (q.1 ∙ ap Err q.2)) (at e h)
-    where
-      at : (f : Refusal) → refuses.Refuses p.declared f → Refuses p f
-      at (refusal.TooMany q) g = g
-      at (refusal.Repeated q) g = g
-      at (refusal.Undeclared q) g = absurd g

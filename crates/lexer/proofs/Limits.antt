@@ -1,8 +1,8 @@
 -- Numbers cut above the greatest: where none is too large, nothing was cut.
-use Rattle.std.proofs.Common.{◌≡◌, ℕ, ◌+◌, ◌<◌, ◌≤◌, min, Bool, true, false, cond, ltb, List, [], ◌∷◌, map, length, take, drop, replicate, Some, None, Option, sym, refl, ap, ◌∙◌, subst, arith, length-append, length-drop}
+use Rattle.std.proofs.Common.{◌≡◌, ℕ, ◌+◌, ◌≤◌, min, Bool, true, false, cond, ltb, List, [], ◌∷◌, map, length, take, drop, replicate, Some, None, Option, sym, refl, ap, ◌∙◌, subst, arith, length-append, length-drop}
 use Rattle.std.specs.Option.{option_map}
 use Rattle.std.specs.List.{AllByRecursion, find}
-use Rattle.std.proofs.lemmas.Bool.{le-ltb, lt-ltb, ltb-false}
+use Rattle.std.proofs.lemmas.Bool.{le-ltb, ltb-false}
 use Rattle.std.proofs.lemmas.Bool.Decides.{nat_tests}
 use Rattle.std.proofs.ByRecursion.{All-map}
 use Rattle.std.proofs.lemmas.List.{length-take-le, length-replicate}
@@ -10,10 +10,8 @@ use Rattle.syntax.specs.declared.token.Token as coded
 use Rattle.syntax.specs.declared.token.Kind as coded-kind
 use Rattle.syntax.specs.declared.token.Kind.TheVariants as code
 use Rattle.syntax.specs.Tokens.{Name, Kind, mark, name, number, relation, additive, multiplicative, kind_of, token_of, tokens_of}
-use Rattle.lexer.specs.declared.refusals.Refusal.{Refusal}
-use Rattle.lexer.specs.declared.refusals.Refusal.TheVariants as refusal
 use Rattle.lexer.specs.Scan.{limited_kind}
-use Rattle.lexer.specs.Lex.{Lexeme, lexeme, tokens, Lexed, good, stray, lexing, too_large, coded_too_large, first_too_large, answer, accepted, refused, sized, read, lexeme_of, lexemes_of, Within, limited_lexeme, limited_all, Strays, Refuses}
+use Rattle.lexer.specs.Lex.{Lexeme, lexeme, tokens, Lexed, good, stray, lexing, too_large, coded_too_large, first_too_large, answer, accepted, refused, sized, read, lexeme_of, lexemes_of, Within, limited_lexeme, limited_all}
 use Rattle.lexer.specs.Reading.{Reads, done, blank, token, Reading}
 use Rattle.lexer.proofs.Reading.{source_reading}
 

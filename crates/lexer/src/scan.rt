@@ -1,12 +1,11 @@
 // The token that starts at the front of a text.
-ghost use Rattle.std.specs.Prelude.{◌≡◌, ◌<◌, true, length, min, Some};
-ghost use Rattle.std.specs.List.{prefix_len, AllByRecursion};
+ghost use Rattle.std.specs.Prelude.{◌≡◌, true, min, Some};
+ghost use Rattle.std.specs.List.{AllByRecursion};
 ghost use Rattle.syntax.specs.Tokens.{kind_of};
 ghost use Rattle.lexer.specs.Bytes.{digit};
 ghost use Rattle.lexer.specs.Scan.{word_kind, value_of, word_at, number_at, head_at, symbol_at, scanned, limited, seen};
 
 use crate::MAX_NUMBER;
-use std::str;
 use syntax::token::{Additive, Kind, Mark, Multiplicative, Relation};
 
 // A number above the greatest is kept as this.
@@ -35,16 +34,14 @@ fn word_kind(word: &[u8]) -> Kind
     }
 }
 
-// A number that a `u32` cannot hold is above the greatest too.
 fn value(digits: &[u8]) -> u32
-    requires some { 0 < length digits.now }
-    requires all { AllByRecursion (λ b. digit b ≡ true) digits.now }
+    requires { AllByRecursion (λ b. digit b ≡ true) digits.now }
     ensures { result ≡ min (value_of digits.now) 1073741824 }
 {
-    let Ok(text) = str::from_utf8(digits) else {
-        return BEYOND;
-    };
-    text.parse().unwrap_or(BEYOND).min(BEYOND)
+    digits.iter().fold(0u32, |value, digit| {
+        let unit = u32::from(digit.saturating_sub(b'0'));
+        value.saturating_mul(10).saturating_add(unit).min(BEYOND)
+    })
 }
 
 fn word(text: &[u8]) -> Found
@@ -59,7 +56,6 @@ fn word(text: &[u8]) -> Found
 }
 
 fn number(text: &[u8]) -> Option<Found>
-    requires { 0 < prefix_len digit text.now }
     ensures { seen text.now result ≡ limited (number_at text.now) }
 {
     let length = text.iter().take_while(|byte| byte.is_ascii_digit()).count();

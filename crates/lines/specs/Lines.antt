@@ -4,7 +4,8 @@
 --   Read              what reading some bytes answers
 --   number_in         the number of a line, read off its bytes
 --   OneLineEach       each number has one line of 12 bytes, its own
-use Rattle.std.specs.Prelude.{◌≡◌, ℕ, ◌+◌, ◌-◌, ◌*◌, ◌^◌, ◌<◌, Bool, false, cond, ◌||◌, List, [], ◌∷◌, ◌++◌, length, replicate, ℤ, pos, neg_ℤ, Some, None, Option, ◌==◌, ◌≢◌, nat_lt}
+--   Numeral, Padded   what the parts of a reader answer
+use Rattle.std.specs.Prelude.{◌≡◌, ℕ, ◌+◌, ◌-◌, ◌*◌, ◌^◌, ◌<◌, ◌≤◌, Bool, false, cond, ◌||◌, List, [], ◌∷◌, ◌++◌, length, take, replicate, ℤ, pos, neg_ℤ, Some, None, decimal, Option, ◌==◌, ◌≢◌, nat_lt, slice_index, slice_index_or}
 use Rattle.std.specs.Int.Signed.{mag}
 use Rattle.std.specs.Fmt.{signed_decimal}
 
@@ -39,3 +40,16 @@ pub record OneLineEach : Type 0 where
   pub long : (z : ℤ) → Word z → length (line_of z) ≡ 12
   pub back : (z : ℤ) → Word z → number_in (line_of z) ≡ z
   pub own : (y z : ℤ) → Word y → Word z → line_of y ≡ line_of z → y ≡ z
+
+-- the number that the digits write, or none where they are no number's digits
+abbrev pub Numeral : List ℕ → Option ℕ → Type 0
+Numeral ds (Some n) = (n < 2 ^ 64) × (ds ≡ decimal n)
+Numeral ds None = (n : ℕ) → n < 2 ^ 64 → ds ≢ decimal n
+
+-- of 12 bytes that end in a line feed, n spaces come first in the 11 columns, and no more
+pub record Padded (bs : List ℕ) (n : ℕ) : Type 0 where
+  pub long : length bs ≡ 12
+  pub end : slice_index_or bs 11 0 ≡ 10
+  pub few : n ≤ 11
+  pub blank : take n bs ≡ replicate n 32
+  pub stops : n < 11 → slice_index bs n ≢ 32

@@ -1,10 +1,12 @@
 -- The stack as a list, and words widened.
-use Rattle.std.proofs.Common.{◌≡◌, ℕ, zero, suc, ◌+◌, ◌-◌, ◌<◌, ◌≤◌, true, false, ltb, ◌≢◌, List, ◌∷◌, length, get_or, take, drop, set, ℤ, pos, negsuc, Some, None, Option, MatchOption, sym, refl, ap, ◌∙◌, subst, add-one, arith, get_or-set_other, get_or-set_same, w32, w64, SFits, to_z, of_z, Bor}
+use Rattle.std.proofs.Common.{◌≡◌, ℕ, zero, suc, ◌+◌, ◌-◌, ◌<◌, ◌≤◌, true, false, ltb, ◌≢◌, List, ◌∷◌, length, get_or, take, drop, set, ℤ, pos, negsuc, Some, None, inl, inr, sym, refl, ap, ◌∙◌, subst, add-one, arith, get_or-set_other, get_or-set_same, w32, w64, SFits, to_z, of_z}
 use borrow.Author.Differences.{ints}
-use Rattle.std.specs.Option.{option_copied}
+use Rattle.std.specs.List.{slice_get}
 use Rattle.std.proofs.lemmas.Bool.Decides.{nat_tests}
 use Rattle.std.proofs.lemmas.Int.{to_z-of_z}
-use Rattle.std.proofs.lemmas.List.{get_or_default, get_or-take, length-take-le}
+use Rattle.std.proofs.lemmas.List.{get_or-take, length-take-le}
+use Rattle.std.proofs.lemmas.Option.{slice_get-get_or, slice_get_past}
+use Rattle.std.proofs.lemmas.Bool.{cases_lt}
 use Rattle.code.specs.Machine.{nth}
 use Rattle.machine.specs.View.{tops, Word, Two}
 
@@ -81,7 +83,7 @@ pub no_space : (xs : List ℤ) (d : ℕ) → 68 ≤ d → ltb (length (tops xs d
 no_space xs d h = ap (λ n. ltb n 68) (length_tops xs d) ∙ grind (arith, nat_tests)
 
 -- the word at a place from the top
-no_word : (xs : List ℤ) (d k : ℕ) → d ≤ k → nth (tops xs d) k ≡ None
+pub no_word : (xs : List ℤ) (d k : ℕ) → d ≤ k → nth (tops xs d) k ≡ None
 no_word xs zero k h = refl
 no_word xs (suc d) zero h = let no_such : ⊥ = omega arith in absurd no_such
 no_word xs (suc d) (suc k) h = no_word xs d k (omega arith)
@@ -91,13 +93,14 @@ a_word xs zero k h = let no_such : ⊥ = omega arith in absurd no_such
 a_word xs (suc d) zero h = let e : d ≡ suc d - 1 - 0 = omega arith in ap (λ n. Some (get_or xs n (pos 0))) e
 a_word xs (suc d) (suc k) h = let e : d - 1 - k ≡ suc d - 1 - suc k = omega arith in a_word xs d k (omega arith) ∙ ap (λ n. Some (get_or xs n (pos 0))) e
 
--- the same, counted from the back of the words in use
-pub from_the_back : (xs : List ℤ) (d k : ℕ) (r : Option (Bor ℤ)) → d ≤ length xs → MatchOption r (length (take d xs) ≤ k) (λ x. (k < length (take d xs)) × (x.now ≡ get_or (take d xs) (length (take d xs) - 1 - k) x.now)) → option_copied r ≡ nth (tops xs d) k
-from_the_back xs d k None h m = sym (no_word xs d k (omega (arith, length-take-le d xs h, m)))
-from_the_back xs d k (Some x) h m =
-    let len = length-take-le d xs h in
-    let lt : k < d = omega (arith, len, m.0) in
-    let place = ap (λ n. get_or (take d xs) (n - 1 - k) x.now) len in
-    let read = get_or-take d xs (d - 1 - k) x.now (omega arith) in
-    let zero = get_or_default xs (d - 1 - k) x.now (pos 0) (omega arith) in
-    ap Some (m.1 ∙ place ∙ read ∙ zero) ∙ sym (a_word xs d k lt)
+-- the same, as the last of the words below those above it
+pub last_below : (xs : List ℤ) (d k : ℕ) → k ≤ d → d ≤ length xs → slice_get (take (d - k) xs) (length (take (d - k) xs) - 1) ≡ nth (tops xs d) k
+last_below xs d k h l = elim (cases_lt k d) [
+  | inl lt ↦ (
+      let len = length-take-le (d - k) xs (omega arith) in
+      let place : length (take (d - k) xs) - 1 ≡ d - 1 - k = omega (arith, len) in
+      ap (slice_get (take (d - k) xs)) place ∙ slice_get-get_or (take (d - k) xs) (d - 1 - k) (pos 0) (omega (arith, len)) ∙ ap Some (get_or-take (d - k) xs (d - 1 - k) (pos 0) (omega arith)) ∙ sym (a_word xs d k lt))
+  | inr ge ↦ (
+      let len = length-take-le (d - k) xs (omega arith) in
+      slice_get_past (take (d - k) xs) (length (take (d - k) xs) - 1) (omega (arith, len)) ∙ sym (no_word xs d k ge))
+]

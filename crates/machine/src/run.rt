@@ -1,5 +1,5 @@
 // The state of a run.
-ghost use Rattle.std.specs.Prelude.{◌^◌, ◌<◌, ◌≤◌};
+ghost use Rattle.std.specs.Prelude.{◌^◌, ◌<◌, ◌≤◌, length};
 
 use crate::cell::CELLS;
 use crate::fault::Fault;
@@ -24,6 +24,7 @@ pub struct Memory<U, I, O> {
     pub(crate) output: O,
     pub(crate) cells: [Option<i32>; CELLS],
     pub(crate) stack: Stack,
+    ghost stacked: { length stack ≤ 68 },
 }
 
 #[derive(Drop)]

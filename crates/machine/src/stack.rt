@@ -95,6 +95,7 @@ impl Stack {
     pub(crate) fn word(&self, place: usize) -> Option<i32>
         ensures { result ≡ nth self.now place }
     {
-        self.words[..self.depth].iter().rev().nth(place).copied()
+        let below = self.depth.checked_sub(place)?;
+        self.words[..below].last().copied()
     }
 }

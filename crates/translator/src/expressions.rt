@@ -1,5 +1,6 @@
 // The code of expressions: the three levels call for one another through parentheses.
-ghost use Rattle.std.specs.Prelude.{◌≡◌, pos, IfOk, OnOk};
+ghost use Rattle.std.specs.Prelude.{◌≡◌, ◌<◌, ◌≤◌, pos, IfOk, OnOk, MatchResult};
+ghost use Rattle.translator.specs.declared.failure.Failure.TheVariants.{WideOperand};
 ghost use Rattle.translator.specs.Linear.{code_of_sum, code_of_product, code_of_relation};
 ghost use Rattle.translator.specs.Emitted.{factor_code, term_code, expression_code, condition_code};
 ghost use Rattle.translator.specs.Emitters.{Emits};
@@ -9,6 +10,21 @@ use crate::failure::Failure;
 use code::Instruction;
 use syntax::token::{Additive, Multiplicative, Relation};
 use syntax::tree::{Condition, Expression, Factor, Term};
+
+// A literal has less than this, in 31 bits.
+const LITERAL_END: i32 = 0x4000_0000;
+
+// A number as the operand of LIT.
+fn literal(value: u32) -> Result<i32, Failure>
+    ensures { MatchResult result (λ z. (z ≡ pos value) × (value < 1073741824)) (λ e. (e ≡ WideOperand) × (1073741824 ≤ value)) }
+{
+    let z = i32::try_from(value)?;
+    if z < LITERAL_END {
+        Ok(z)
+    } else {
+        Err(Failure::WideOperand)
+    }
+}
 
 // No `From`: both its types are foreign here. A trait of our own would hold these matches, and nothing be generic over it.
 fn sum(operator: Additive) -> Instruction
@@ -51,7 +67,7 @@ impl Emitter<'_> {
         match factor {
             Factor::Variable(name) => self.put(Instruction::Load(self.cell(*name)), name.place),
             Factor::Number { value, place } => {
-                self.put(Instruction::Literal(i32::try_from(*value)?), *place)
+                self.put(Instruction::Literal(literal(*value)?), *place)
             }
             Factor::Parenthesized(inner) => self.expression(inner),
         }

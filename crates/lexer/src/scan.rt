@@ -38,10 +38,12 @@ fn value(digits: &[u8]) -> u32
     requires { AllByRecursion (λ b. digit b ≡ true) digits.now }
     ensures { result ≡ min (value_of digits.now) 1073741824 }
 {
-    digits.iter().fold(0u32, |value, digit| {
-        let unit = u32::from(digit.saturating_sub(b'0'));
-        value.saturating_mul(10).saturating_add(unit).min(BEYOND)
-    })
+    let value = digits.iter().fold(0u64, |value, digit| {
+        let unit = u64::from(digit.saturating_sub(b'0'));
+        let more = value.wrapping_mul(10).wrapping_add(unit);
+        more.min(u64::from(BEYOND))
+    });
+    value as u32
 }
 
 fn word(text: &[u8]) -> Found

@@ -34,6 +34,7 @@ fn word_kind(word: &[u8]) -> Kind
     }
 }
 
+// Cut at each digit, so that nothing wraps.
 fn value(digits: &[u8]) -> u32
     requires { AllByRecursion (λ b. digit b ≡ true) digits.now }
     ensures { result ≡ min (value_of digits.now) 1073741824 }
